@@ -4,8 +4,8 @@
 //! * [`octets`], [`published`], [`runs`]: numbers in a file, published values, the run-length rule
 //! * [`layout`]: which octets are an accepted file, and how any others are refused
 //! * [`calls`], [`stretches`], [`lister`]: document 01's calls and the text of the list
-//! * [`maker`], [`cases`], [`spoil`], [`numbers`]: made files, files with their verdicts, spoiled files, and numbers that are the
-//!   same in every run
+//! * [`maker`], [`shapes`], [`cases`], [`spoil`]: made files, random sound ones, files with their verdicts, spoiled files
+//! * [`numbers`]: numbers that look random and are the same in every run
 pub mod calls;
 pub mod cases;
 pub mod layout;
@@ -15,6 +15,7 @@ pub mod numbers;
 pub mod octets;
 pub mod published;
 pub mod runs;
+pub mod shapes;
 pub mod spoil;
 pub mod stretches;
 

@@ -77,18 +77,23 @@ pub fn run_read(octets: &[u8], v: u8, n: usize, levels: &mut [u8]) -> Result<(),
     Ok(())
 }
 
+/// One run under V: its level, then the digits of its length less 1, the last of them not zero.
+pub fn write_run(octets: &mut Vec<u8>, level: u8, length: usize, v: u8) {
+    let base = 255 - usize::from(v);
+    octets.push(level);
+    let mut rest = length - 1;
+    while rest > 0 {
+        octets.push(v + 1 + (rest % base) as u8);
+        rest /= base;
+    }
+}
+
 /// The octets of the writer: each run as long as it can be, its digits ended with a non-zero one.
 pub fn encode(levels: &[u8]) -> (u8, Vec<u8>) {
     let v = levels.iter().copied().max().unwrap_or(0);
-    let base = 255 - usize::from(v);
     let mut octets = Vec::new();
     for run in levels.chunk_by(|a, b| a == b) {
-        octets.push(run[0]);
-        let mut rest = run.len() - 1;
-        while rest > 0 {
-            octets.push(v + 1 + (rest % base) as u8);
-            rest /= base;
-        }
+        write_run(&mut octets, run[0], run.len(), v);
     }
     (v, octets)
 }
