@@ -1,0 +1,122 @@
+-- `measure` meets its contract: what is counted, and what is left to write.
+use Prim.Native.Nat.{_+_, _-_, _≤_, _<_}
+use mathlib.Core.Path.{_≡_, sym, ap}
+use native.Mathlib.Omega.{arith}
+use lib.ListN.{length, getD, drop}
+use borrow.Author.Needs.{needs}
+use lib.ListN.{length-append}
+use Rattle.packing.specs.Write.{code, onFrom, written}
+use Rattle.packing.proofs.Digits.{digits-short, code-length, on-same, on-other, on-end, written-start, written-empty}
+use Rattle.packing.proofs.measure.Statement.{statement}
+use Rattle.packing.proofs.measure.Tie as tie
+
+abbrev Inv-loop : tie.InvT-loop
+Inv-loop levels v base x₀ k₀ i₀ total₀ x k i total = (i ≤ length levels) × (total + k < i) × (total + length (onFrom v x k (drop i levels)) ≡ length (written v levels))
+
+abbrev μ-loop : tie.MeasureT-loop
+μ-loop levels v base x₀ k₀ i₀ total₀ x k i total = length levels - i
+
+returns : tie.Need-returns Inv-loop μ-loop
+returns c =
+    sym (ap length (written-empty (c .before .before .args .v) (c .before .before .args .levels .now) (c .if1 .taken)))
+
+sub-base : tie.Need-sub-base Inv-loop μ-loop
+sub-base c = search needs
+
+shared-slice-read-x : tie.Need-shared-slice-read-x Inv-loop μ-loop
+shared-slice-read-x c = search needs
+
+loop-holds : tie.Need-loop-holds Inv-loop μ-loop
+loop-holds c =
+    let a = c .before .before .before .args in
+    (omega arith, omega arith, omega (arith, ap length (written-start (a .v) (a .levels .now) (omega arith))))
+
+shared-slice-read-y : tie.Need-shared-slice-read-y Inv-loop μ-loop
+shared-slice-read-y c = search needs
+
+add-i : tie.Need-add-i Inv-loop μ-loop
+add-i c = search needs
+
+add-k : tie.Need-add-k Inv-loop μ-loop
+add-k c = search needs
+
+loop-less : tie.Need-loop-less Inv-loop μ-loop
+loop-less c = search needs
+
+loop-again : tie.Need-loop-again Inv-loop μ-loop
+loop-again c =
+    let a = c .before .before .before .before .before .before .before .args in
+    let l = c .before .before .before .loop in
+    (omega arith, omega arith, omega (arith, l .inv .2, ap length (on-same (a .v) (l .x) (l .k) (a .levels .now) (l .i) (omega arith) (c .if2 .taken))))
+
+digit-count-requires : tie.Need-digit-count-requires Inv-loop μ-loop
+digit-count-requires c κs = search needs
+
+add-total : tie.Need-add-total Inv-loop μ-loop
+add-total c =
+    let a = c .before .before .before .before .before .before .before .before .args in
+    let l = c .before .before .before .before .loop in
+    record { fits = omega (arith, c .digit-count .ensures, digits-short (255 - a .v) (l .k)) }
+
+add-total-2 : tie.Need-add-total-2 Inv-loop μ-loop
+add-total-2 c =
+    let a = c .before .before .before .before .before .before .before .before .args in
+    let l = c .before .before .before .before .loop in
+    record { fits = omega (arith, c .digit-count .ensures, digits-short (255 - a .v) (l .k)) }
+
+loop-less-2 : tie.Need-loop-less-2 Inv-loop μ-loop
+loop-less-2 c = search needs
+
+loop-again-2 : tie.Need-loop-again-2 Inv-loop μ-loop
+loop-again-2 c =
+    let a = c .before .before .before .before .before .before .before .before .args in
+    let l = c .before .before .before .before .loop in
+    let y = getD (a .levels .now) (l .i) 0 in (
+      omega arith,
+      omega (arith, c .digit-count .ensures, digits-short (255 - a .v) (l .k)),
+      omega (arith, l .inv .2, c .digit-count .ensures, digits-short (255 - a .v) (l .k), ap length (on-other (a .v) (l .x) (l .k) (a .levels .now) (l .i) (omega arith) (c .before .if2 .left)), length-append (code (a .v) (l .x) (l .k)) (onFrom (a .v) y 0 (drop (l .i + 1) (a .levels .now))), code-length (a .v) (l .x) (l .k)),
+    )
+
+add-result : tie.Need-add-result Inv-loop μ-loop
+add-result c =
+    search needs
+
+digit-count-requires-2 : tie.Need-digit-count-requires-2 Inv-loop μ-loop
+digit-count-requires-2 c κs = search needs
+
+add-result-2 : tie.Need-add-result-2 Inv-loop μ-loop
+add-result-2 c =
+    let a = c .before .before .before .before .before .before .args in
+    let l = c .before .before .loop in
+    record { fits = omega (arith, c .digit-count2 .ensures, digits-short (255 - a .v) (l .k)) }
+
+returns-2 : tie.Need-returns-2 Inv-loop μ-loop
+returns-2 c =
+    let a = c .before .before .before .before .before .before .args in
+    let l = c .before .before .loop in
+    omega (arith, l .inv .2, c .digit-count2 .ensures, ap length (on-end (a .v) (l .x) (l .k) (a .levels .now) (l .i) (omega arith)), code-length (a .v) (l .x) (l .k))
+
+pub measure-spec : {M : Type 1} → statement M
+measure-spec =
+    tie.close
+    (tie.spec
+    Inv-loop
+    μ-loop
+    returns
+    sub-base
+    shared-slice-read-x
+    loop-holds
+    shared-slice-read-y
+    add-i
+    add-k
+    loop-less
+    loop-again
+    digit-count-requires
+    add-total
+    add-total-2
+    loop-less-2
+    loop-again-2
+    add-result
+    digit-count-requires-2
+    add-result-2
+    returns-2)

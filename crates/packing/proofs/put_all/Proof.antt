@@ -1,0 +1,119 @@
+-- `put_all` meets its contract: what is in front, and what is left to write.
+use Prim.Native.Nat.{ℕ, _+_, _-_, _≤_, _<_}
+use mathlib.Core.Path.{_≡_, refl, sym, ap, _∙_}
+use mathlib.Core.List.{List, []}
+use native.Mathlib.Omega.{arith}
+use lib.ListN.{length, take, drop}
+use borrow.Author.Needs.{needs}
+use Rattle.runs.specs.Lent.{front}
+use Rattle.packing.specs.Write.{code, onFrom, written}
+use Rattle.runs.specs.Lent.{placed}
+use Rattle.packing.proofs.Digits.{on-same, on-other, on-end, written-start, written-empty}
+use Rattle.packing.proofs.Placing.{next-drop, next-fits, run-put, length-fronted}
+use mathlib.Core.List.{append-nil}
+use lib.ListN.{length-drop}
+use lib.Seq.{take-all}
+use Rattle.packing.proofs.put_all.Statement.{statement}
+use Rattle.packing.proofs.put_all.Tie as tie
+
+abbrev Inv-loop : tie.InvT-loop
+Inv-loop levels v out₀ x₀ k₀ i₀ at₀ out x k i at = (i ≤ length levels) × (k < i) × (at ≤ length (written v levels)) × (drop at (written v levels) ≡ onFrom v x k (drop i levels)) × (out ≡ front (take at (written v levels)) out₀)
+
+abbrev μ-loop : tie.MeasureT-loop
+μ-loop levels v out₀ x₀ k₀ i₀ at₀ out x k i at = length levels - i
+
+-- the buffer keeps its length
+size : (c : tie.At-loop Inv-loop μ-loop) → length (c .loop .out) ≡ length (c .before .before .before .before .before .args .out .now)
+size c =
+    let a = c .before .before .before .before .before .args in
+    ap length (c .loop .inv .4) ∙ length-fronted (written (a .v) (a .levels .now)) (a .out .now) (c .loop .at) (c .loop .inv .2) (c .before .before .before .before .before .pre .2)
+
+returns : tie.Need-returns Inv-loop μ-loop
+returns c =
+    ap (λ (l : List ℕ). front l (c .before .before .before .args .out .now)) (sym (written-empty (c .before .before .before .args .v) (c .before .before .before .args .levels .now) (c .if1 .taken)))
+
+shared-slice-read-x : tie.Need-shared-slice-read-x Inv-loop μ-loop
+shared-slice-read-x c = search needs
+
+loop-holds : tie.Need-loop-holds Inv-loop μ-loop
+loop-holds c =
+    let a = c .before .before .before .before .args in
+    (omega arith, omega arith, omega arith, written-start (a .v) (a .levels .now) (omega arith), refl)
+
+shared-slice-read-y : tie.Need-shared-slice-read-y Inv-loop μ-loop
+shared-slice-read-y c = search needs
+
+add-i : tie.Need-add-i Inv-loop μ-loop
+add-i c = search needs
+
+add-k : tie.Need-add-k Inv-loop μ-loop
+add-k c = search needs
+
+loop-less : tie.Need-loop-less Inv-loop μ-loop
+loop-less c = search needs
+
+loop-again : tie.Need-loop-again Inv-loop μ-loop
+loop-again c =
+    let a = c .before .before .before .before .before .before .before .before .args in
+    let l = c .before .before .before .loop in
+    (omega arith, omega arith, l .inv .2, l .inv .3 ∙ on-same (a .v) (l .x) (l .k) (a .levels .now) (l .i) (omega arith) (c .if2 .taken), l .inv .4)
+
+put-run-requires : tie.Need-put-run-requires Inv-loop μ-loop
+put-run-requires c κs =
+    let a = c .before .before .before .before .before .before .before .before .before .args in
+    let l = c .before .before .before .before .loop in
+    (omega arith, omega arith, omega (arith, size (c .before .before .before .before), next-fits (written (a .v) (a .levels .now)) (l .at) (code (a .v) (l .x) (l .k)) _ (l .inv .3 ∙ on-other (a .v) (l .x) (l .k) (a .levels .now) (l .i) (omega arith) (c .before .if2 .left)) (l .inv .2)))
+
+loop-less-2 : tie.Need-loop-less-2 Inv-loop μ-loop
+loop-less-2 c = search needs
+
+loop-again-2 : tie.Need-loop-again-2 Inv-loop μ-loop
+loop-again-2 c =
+    let a = c .before .before .before .before .before .before .before .before .before .before .before .before .args in
+    let l = c .before .before .before .before .before .before .before .loop in
+    let e = c .before .before .put-run .ensures in (
+      omega arith,
+      omega arith,
+      omega (arith, e .0, next-fits (written (a .v) (a .levels .now)) (l .at) (code (a .v) (l .x) (l .k)) _ (l .inv .3 ∙ on-other (a .v) (l .x) (l .k) (a .levels .now) (l .i) (omega arith) (c .before .before .before .before .if2 .left)) (l .inv .2)),
+      ap (λ (n : ℕ). drop n (written (a .v) (a .levels .now))) (e .0) ∙ next-drop (written (a .v) (a .levels .now)) (l .at) (code (a .v) (l .x) (l .k)) _ (l .inv .3 ∙ on-other (a .v) (l .x) (l .k) (a .levels .now) (l .i) (omega arith) (c .before .before .before .before .if2 .left)) (l .inv .2),
+      e .1 ∙ ap (λ (d : List ℕ). placed d (l .at) (code (a .v) (l .x) (l .k))) (l .inv .4) ∙ run-put (written (a .v) (a .levels .now)) (a .out .now) (l .at) (code (a .v) (l .x) (l .k)) _ (l .inv .3 ∙ on-other (a .v) (l .x) (l .k) (a .levels .now) (l .i) (omega arith) (c .before .before .before .before .if2 .left)) (l .inv .2) ∙ ap (λ (n : ℕ). front (take n (written (a .v) (a .levels .now))) (a .out .now)) (sym (e .0)),
+    )
+
+put-run-requires-2 : tie.Need-put-run-requires-2 Inv-loop μ-loop
+put-run-requires-2 c κs =
+    let a = c .before .before .before .before .before .before .before .args in
+    let l = c .before .before .loop in
+    (omega arith, omega arith, omega (arith, size (c .before .before), next-fits (written (a .v) (a .levels .now)) (l .at) (code (a .v) (l .x) (l .k)) [] (l .inv .3 ∙ on-end (a .v) (l .x) (l .k) (a .levels .now) (l .i) (omega arith) ∙ sym (append-nil (code (a .v) (l .x) (l .k)))) (l .inv .2)))
+
+same-length : tie.Need-same-length Inv-loop μ-loop
+same-length c =
+    c .before .before .put-run2 .kept .0 ∙ size (c .before .before .before .before .before)
+
+returns-2 : tie.Need-returns-2 Inv-loop μ-loop
+returns-2 c =
+    let a = c .before .before .before .before .before .before .before .before .before .before .args in
+    let l = c .before .before .before .before .before .loop in
+    let e = c .before .before .put-run2 .ensures in
+    let all : take (l .at + length (code (a .v) (l .x) (l .k))) (written (a .v) (a .levels .now)) ≡ (written (a .v) (a .levels .now)) = take-all (l .at + length (code (a .v) (l .x) (l .k))) (written (a .v) (a .levels .now)) (omega (arith, simp length-drop at (ap length (next-drop (written (a .v) (a .levels .now)) (l .at) (code (a .v) (l .x) (l .k)) [] (l .inv .3 ∙ on-end (a .v) (l .x) (l .k) (a .levels .now) (l .i) (omega arith) ∙ sym (append-nil (code (a .v) (l .x) (l .k)))) (l .inv .2))))) in
+    e .1 ∙ ap (λ (d : List ℕ). placed d (l .at) (code (a .v) (l .x) (l .k))) (l .inv .4) ∙ run-put (written (a .v) (a .levels .now)) (a .out .now) (l .at) (code (a .v) (l .x) (l .k)) [] (l .inv .3 ∙ on-end (a .v) (l .x) (l .k) (a .levels .now) (l .i) (omega arith) ∙ sym (append-nil (code (a .v) (l .x) (l .k)))) (l .inv .2) ∙ ap (λ (p : List ℕ). front p (a .out .now)) all
+
+pub put-all-spec : {M : Type 1} → statement M
+put-all-spec =
+    tie.close
+    (tie.spec
+    Inv-loop
+    μ-loop
+    returns
+    shared-slice-read-x
+    loop-holds
+    shared-slice-read-y
+    add-i
+    add-k
+    loop-less
+    loop-again
+    put-run-requires
+    loop-less-2
+    loop-again-2
+    put-run-requires-2
+    same-length
+    returns-2)

@@ -1,0 +1,34 @@
+-- How the bare run calls answer by C's rules: 0 or document 01's refusal number, and words in lent memory.
+-- Word 0 is the refusal's place, 0 where there is none; the other words are set only by an answer that is no refusal.
+use Prim.Native.Nat.{ℕ}
+use mathlib.Core.List.{List}
+use lib.ListN.{set}
+use Rattle.runs.specs.Read.{readNumber, readPlace, checkNumber}
+use Rattle.runs.specs.declared.RunRead.{RunRead}
+use Rattle.runs.specs.declared.RunRead.the-variants as R
+use Rattle.runs.specs.declared.RunCheck.{RunCheck}
+use Rattle.runs.specs.declared.RunCheck.the-variants as K
+use Rattle.packing.specs.Write.{writeNumber, writePlace}
+use Rattle.packing.specs.declared.RunWrite.{RunWrite}
+use Rattle.packing.specs.declared.RunWrite.the-variants as W
+
+abbrev pub runCheckNumber : RunCheck → ℕ
+runCheckNumber K.Gives = 0
+runCheckNumber (K.Refused why) = checkNumber why
+
+abbrev pub runReadNumber : RunRead → ℕ
+runReadNumber R.Read = 0
+runReadNumber (R.Refused why) = readNumber why
+
+abbrev pub runReadWords : RunRead → List ℕ → List ℕ
+runReadWords R.Read w = set w 0 0
+runReadWords (R.Refused why) w = set w 0 (readPlace why)
+
+abbrev pub runWriteNumber : RunWrite → ℕ
+runWriteNumber (W.Wrote v n) = 0
+runWriteNumber (W.Refused why) = writeNumber why
+
+-- place, V, number of octets
+abbrev pub runWriteWords : RunWrite → List ℕ → List ℕ
+runWriteWords (W.Wrote v n) w = set (set (set w 0 0) 1 v) 2 n
+runWriteWords (W.Refused why) w = set w 0 (writePlace why)

@@ -1,0 +1,5 @@
+pub mod Bins
+pub mod Scanning
+pub mod Steps
+pub mod Here
+pub mod Lent

@@ -1,0 +1,78 @@
+-- `run_read` meets its contract: the tests in document 01's order, then the scan, then the filling with all bins.
+use Prim.Native.Nat.{ℕ, _-_}
+use mathlib.Core.Path.{_≡_, refl, sym, ap, _∙_}
+use mathlib.Core.Bool.{true}
+use mathlib.Core.List.{List}
+use native.Mathlib.Omega.{arith}
+use lib.Seq.{take-all}
+use borrow.Author.Needs.{needs}
+use borrow.Author.Tests.{lt-ltb, le-ltb}
+use Rattle.runs.specs.Run.{levels, gives}
+use Rattle.runs.specs.Lent.{front}
+use Rattle.runs.specs.Read.{readAnswer}
+use Rattle.runs.proofs.Here.{told, missed, gives-true}
+use Rattle.runs.proofs.run_read.Statement.{statement}
+use Rattle.runs.proofs.run_read.Tie as tie
+
+returns : tie.Need-returns
+unfolding readAnswer
+returns c = (simp (lt-ltb _ _ (c .if1 .taken)), refl)
+
+returns-2 : tie.Need-returns-2
+unfolding readAnswer
+returns-2 c = (simp (lt-ltb _ _ (c .if2 .taken), le-ltb _ _ (c .before .if1 .left)), refl)
+
+returns-3 : tie.Need-returns-3
+unfolding readAnswer
+returns-3 c = (simp (lt-ltb _ _ (c .if3 .taken), le-ltb _ _ (c .before .if2 .left), le-ltb _ _ (c .before .before .if1 .left)), refl)
+
+scan-runs-requires : tie.Need-scan-runs-requires
+scan-runs-requires c κs = search needs
+
+enum-told : tie.Need-enum-told
+enum-told c = search needs
+
+enum-told-2 : tie.Need-enum-told-2
+enum-told-2 c = search needs
+
+returns-4 : tie.Need-returns-4
+unfolding readAnswer
+returns-4 c = let a = c .before .before .before .before .before .before .before .before .args in
+    let no = missed (gives (a .v) (a .n) (a .octets .now)) (sym (c .enum-told2 .given .1) ∙ c .before .before .scan-runs .ensures) in
+    (simp (le-ltb _ _ (c .before .before .before .if3 .left), le-ltb _ _ (c .before .before .before .before .if2 .left), le-ltb _ _ (c .before .before .before .before .before .if1 .left), no), refl)
+
+-- the octets give n bins
+exact : (c : tie.After-enum-told) → gives (c .before .before .before .before .before .before .before .before .args .v) (c .before .before .before .before .before .before .before .before .args .n) (c .before .before .before .before .before .before .before .before .args .octets .now) ≡ true
+exact c = told _ (sym (c .enum-told .given .1) ∙ c .before .before .scan-runs .ensures)
+
+fill-requires : tie.Need-fill-requires
+fill-requires c κs = let a = c .before .before .before .before .before .before .before .before .before .args in
+    let g = gives-true (a .v) (a .n) (a .octets .now) (exact (c .before)) in
+    ((omega arith, g .0, omega arith), (omega arith, omega (arith, g .1), omega arith))
+
+same-length : tie.Need-same-length
+same-length c = search needs
+
+returns-5 : tie.Need-returns-5
+unfolding readAnswer
+returns-5 c = let a = c .before .before .before .before .before .before .before .before .before .before .before .before .args in
+    let yes = exact (c .before .before .before .before) in
+    let g = gives-true (a .v) (a .n) (a .octets .now) yes in (
+      simp (le-ltb _ _ (c .before .before .before .before .before .before .before .if3 .left), le-ltb _ _ (c .before .before .before .before .before .before .before .before .if2 .left), le-ltb _ _ (c .before .before .before .before .before .before .before .before .before .if1 .left), yes),
+      c .before .before .fill .ensures ∙ ap (λ (l : List ℕ). front l (a .out .now)) (take-all (a .n - 0) (levels (a .v) (a .octets .now)) (omega (arith, g .1))),
+    )
+
+pub run-read-spec : {M : Type 1} → statement M
+run-read-spec =
+    tie.close
+    (tie.spec
+    returns
+    returns-2
+    returns-3
+    scan-runs-requires
+    enum-told
+    enum-told-2
+    returns-4
+    fill-requires
+    same-length
+    returns-5)

@@ -1,0 +1,16 @@
+-- What lent memory holds after a call has written to it. Past what is written it is as it was (document 01, "Calls").
+use Prim.Native.Nat.{ℕ, _+_, _-_}
+use mathlib.Core.List.{List, _++_}
+use lib.ListN.{length, take, drop}
+
+-- p at the front of d
+abbrev pub front : List ℕ → List ℕ → List ℕ
+front p d = p ++ drop (length p) d
+
+-- p in d from a place on
+unfoldable pub placed : List ℕ → ℕ → List ℕ → List ℕ
+placed d at p = take at d ++ (p ++ drop (at + length p) d)
+
+-- the elements of l from a up to b
+abbrev pub between : ℕ → ℕ → List ℕ → List ℕ
+between a b l = take (b - a) (drop a l)

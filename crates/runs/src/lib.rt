@@ -1,0 +1,221 @@
+// Template 7.200, reading: octets to levels under a greatest level V, by document 01's "Run-length rule".
+// specs/Run.antt holds the one definition of decoding, `levels`. Nothing stands below; the crates `packing` (writing), `layout` (a
+// file's data), `stretches` (the list, run by run) and `polar` (the calls of a file) stand above and go by `levels`, `gives` and their laws.
+ghost use mathlib.Core.Bool.{true};
+ghost use mathlib.Core.Path.{_≡_};
+ghost use Prim.Native.Nat.{_≤_, _-_};
+ghost use lib.ListN.{length, replicate};
+ghost use Rattle.runs.specs.Run.{levels, opens, scanned, stepAt};
+ghost use Rattle.runs.specs.Lent.{front, placed, between};
+ghost use Rattle.runs.specs.Read.{readAnswer, readOut, checkAnswer};
+
+// Whether octets give exactly the bins wanted.
+pub enum Scan {
+    Exact,
+    Off,
+}
+
+// One pass over the octets, runs outside and digits inside; an octet above V where a run has to open, or bins past n, leave it at once.
+// The weight grows no more once it is over n: a digit other than zero then passes n, and a tail of zero digits cannot overflow it.
+pub fn scan_runs(octets: &[u8], v: u8, n: usize) -> Scan
+    requires { ⌜ (v ≤ 253) × (n ≤ 2097152) ⌝ }
+    ensures { λ r. ⌜ r ≡ scanned v n (now (octets .entry)) ⌝ }
+{
+    let base = 255 - v as usize; // B
+    let mut i: usize = 0;
+    let mut bins: usize = 0;
+    'runs: while i < octets.len() {
+        if v < octets[i] {
+            break 'runs;
+        }
+        if n <= bins {
+            break 'runs;
+        }
+        bins += 1;
+        i += 1;
+        let mut weight: usize = 1;
+        'digits: while i < octets.len() {
+            let o = octets[i];
+            if o <= v {
+                continue 'runs;
+            }
+            bins += (o - v - 1) as usize * weight;
+            if n < bins {
+                break 'runs;
+            }
+            i += 1;
+            if weight <= n {
+                weight *= base;
+            }
+        }
+    }
+    if i < octets.len() {
+        return Scan::Off;
+    }
+    if bins == n {
+        return Scan::Exact;
+    }
+    Scan::Off
+}
+
+// What stands at a place: a run, with the place past its digits; an octet above V; a run longer than the cap; or nothing.
+pub enum Step {
+    Run { level: u8, len: usize, next: usize },
+    Above,
+    Over,
+    End,
+}
+
+// The run at a place. A caller that wants no more than cap bins takes Over for "this run reaches the end".
+pub fn run_at(octets: &[u8], v: u8, at: usize, cap: usize) -> Step
+    requires { ⌜ (v ≤ 253) × (cap ≤ 4294967295) ⌝ }
+    ensures { λ r. ⌜ r ≡ stepAt v cap (now (octets .entry)) at ⌝ }
+{
+    if octets.len() <= at {
+        return Step::End;
+    }
+    let level = octets[at];
+    if v < level {
+        return Step::Above;
+    }
+    if cap < 1 {
+        return Step::Over;
+    }
+    let base = 255 - v as usize;
+    let mut i: usize = at + 1;
+    let mut len: usize = 1;
+    let mut weight: usize = 1;
+    while i < octets.len() {
+        let o = octets[i];
+        if o <= v {
+            break;
+        }
+        len += (o - v - 1) as usize * weight;
+        if cap < len {
+            return Step::Over;
+        }
+        i += 1;
+        if weight <= cap {
+            weight *= base;
+        }
+    }
+    Step::Run {
+        level,
+        len,
+        next: i,
+    }
+}
+
+// One level, from lo up to hi.
+fn stamp(out: &mut [u8], lo: usize, hi: usize, level: u8)
+    requires { ⌜ (lo ≤ hi) × (hi ≤ length (now out)) ⌝ }
+    ensures { λ _. ⌜ now (out .exit) ≡ placed (now (out .entry)) lo (replicate (hi - lo) level) ⌝ }
+{
+    let mut i = lo;
+    while i < hi {
+        out[i] = level;
+        i += 1;
+    }
+}
+
+// What x has above y.
+fn above(x: usize, y: usize) -> usize
+    ensures { λ r. ⌜ r ≡ x - y ⌝ }
+{
+    if y <= x { x - y } else { 0 }
+}
+
+// The bins a up to b of what the octets give, at the front of out. Octets past the run that reaches b are not looked at.
+pub fn fill(octets: &[u8], v: u8, a: usize, b: usize, out: &mut [u8])
+    requires { ⌜ (v ≤ 253) × (opens v (now octets) ≡ true) × (b ≤ 4294967295) ⌝ }
+    requires { ⌜ (a ≤ b) × (b ≤ length (levels v (now octets))) × (b - a ≤ length (now out)) ⌝ }
+    ensures { λ _. ⌜ now (out .exit) ≡ front (between a b (levels v (now (octets .entry)))) (now (out .entry)) ⌝ }
+{
+    let mut at: usize = 0;
+    let mut bins: usize = 0;
+    while bins < b {
+        let step = run_at(octets, v, at, b - bins);
+        match step {
+            Step::Run { level, len, next } => {
+                let end = bins + len;
+                stamp(out, above(bins, a), above(end, a), level);
+                bins = end;
+                at = next;
+            }
+            Step::Over => {
+                let level = octets[at];
+                stamp(out, above(bins, a), b - a, level);
+                return;
+            }
+            Step::Above | Step::End => {
+                return;
+            }
+        }
+    }
+}
+
+// Why run read refuses, a case for each of document 01's numbers: 12, 10, 11, 8.
+pub enum ReadRefusal {
+    VOver253,
+    TooManyBins,
+    RoomTooShort,
+    WrongBins,
+}
+
+// What run read answers: the levels are written, or a refusal.
+pub enum RunRead {
+    Read,
+    Refused(ReadRefusal),
+}
+
+// Run read: the n levels that the octets give under V, at the front of out.
+pub fn run_read(octets: &[u8], v: u8, n: usize, out: &mut [u8]) -> RunRead
+    ensures { λ r. ⌜ r ≡ readAnswer v n (length (now (out .entry))) (now (octets .entry)) ⌝ }
+    ensures { λ r. ⌜ now (out .exit) ≡ readOut r (levels v (now (octets .entry))) (now (out .entry)) ⌝ }
+{
+    if 253 < v {
+        return RunRead::Refused(ReadRefusal::VOver253);
+    }
+    if 2097152 < n {
+        return RunRead::Refused(ReadRefusal::TooManyBins);
+    }
+    if out.len() < n {
+        return RunRead::Refused(ReadRefusal::RoomTooShort);
+    }
+    let found = scan_runs(octets, v, n);
+    let Scan::Exact = found else {
+        return RunRead::Refused(ReadRefusal::WrongBins);
+    };
+    fill(octets, v, 0, n, out);
+    RunRead::Read
+}
+
+// Why run check refuses: 12, 10, 8.
+pub enum CheckRefusal {
+    VOver253,
+    TooManyBins,
+    WrongBins,
+}
+
+// What run check answers.
+pub enum RunCheck {
+    Gives,
+    Refused(CheckRefusal),
+}
+
+// Run check: whether octets give exactly n bins under V, as run read would find, with nothing lent.
+pub fn run_check(octets: &[u8], v: u8, n: usize) -> RunCheck
+    ensures { λ r. ⌜ r ≡ checkAnswer v n (now (octets .entry)) ⌝ }
+{
+    if 253 < v {
+        return RunCheck::Refused(CheckRefusal::VOver253);
+    }
+    if 2097152 < n {
+        return RunCheck::Refused(CheckRefusal::TooManyBins);
+    }
+    let found = scan_runs(octets, v, n);
+    let Scan::Exact = found else {
+        return RunCheck::Refused(CheckRefusal::WrongBins);
+    };
+    RunCheck::Gives
+}
