@@ -4,7 +4,9 @@
 //! * [`octets`], [`published`], [`runs`]: numbers in a file, published values, the run-length rule
 //! * [`layout`]: which octets are an accepted file, and how any others are refused
 //! * [`calls`], [`stretches`], [`lister`]: document 01's calls and the text of the list
-//! * [`maker`], [`shapes`], [`cases`], [`spoil`]: made files, random sound ones, files with their verdicts, spoiled files
+//! * [`maker`], [`shapes`], [`scene`], [`cases`], [`spoil`]: made files, random sound ones, weather, files with their verdicts,
+//!   spoiled files
+//! * [`samples`]: what samples/ and the two programs' crates store
 //! * [`numbers`]: numbers that look random and are the same in every run
 pub mod calls;
 pub mod cases;
@@ -15,6 +17,8 @@ pub mod numbers;
 pub mod octets;
 pub mod published;
 pub mod runs;
+pub mod samples;
+pub mod scene;
 pub mod shapes;
 pub mod spoil;
 pub mod stretches;
