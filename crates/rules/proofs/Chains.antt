@@ -1,26 +1,23 @@
--- Laws on chains of tests.
+-- Chains of tests: a list of rules is met where the chain that the code tests is true, whatever the list.
 use Prim.Native.Nat.{ℕ, _+_, _*_, _^_, _≤_, _<_}
 use mathlib.Core.Path.{_≡_, refl, sym, _∙_, subst⁻¹}
 use native.Mathlib.Nat.{le-of-lt, lt-of-le-of-lt, mul-le-mul-left, mul-lt-mul-of-pos-right}
 use lib.Pow.{pow-pos, pow-add}
-use lib.Dec.{leb, eqb}
+use lib.Dec.{leb}
 use borrow.Author.Tests.{leb-true, le-leb}
-use mathlib.Core.Bool.{Bool, true, false, cond, _&&_, _||_, and-true, and-assoc}
+use mathlib.Core.Bool.{Bool, true, false, false≢true, _&&_, _||_, and-true, and-assoc}
 use mathlib.Core.List.{List, [], _∷_}
 use Rattle.rules.specs.Rules.{Rule, meets, meetsAll}
 
 pub both : {a b c d : Bool} → a ≡ c → b ≡ d → (a && b) ≡ (c && d)
 both p q = cc
 
+pub and-true-both : (a b : Bool) → (a && b) ≡ true → (a ≡ true) × (b ≡ true)
+and-true-both true b h = (refl, h)
+and-true-both false b h = (h, absurd (false≢true h))
+
 pub one-of : {a b c d : Bool} → a ≡ c → b ≡ d → (a || b) ≡ (c || d)
 one-of p q = cc
-
--- one check more in front of those that follow
-pub checked : (n : ℕ) {ok ok' : Bool} {x y r : ℕ} → r ≡ cond ok x n → ok ≡ ok' → x ≡ y → r ≡ cond ok' y n
-checked n p q e = cc
-
-pub same-eqb : {a b c d : ℕ} → a ≡ c → b ≡ d → eqb a b ≡ eqb c d
-same-eqb p q = cc
 
 -- two comparisons that say the same
 pub leb-same : (a b c d : ℕ) → (a ≤ b → c ≤ d) → (c ≤ d → a ≤ b) → leb a b ≡ leb c d

@@ -7,29 +7,19 @@ use lib.ListN.{length}
 use Rattle.rules.proofs.Chains.{both, flat}
 use Rattle.rules.proofs.fields0.Statement.{statement}
 use Rattle.rules.proofs.fields0.Tie as tie
-use Rattle.rules.proofs.fields0.Reads as reads
-use Rattle.rules.proofs.fields0.Lts as lts
-use Rattle.rules.proofs.within32.Reads as within32-reads
-use Rattle.rules.proofs.within64.Reads as within64-reads
-use Rattle.rules.proofs.within8.Reads as within8-reads
 
--- src/lib.rt:130:5
 within32-requires : tie.Need-within32-requires
 within32-requires c κs = search needs
 
--- src/lib.rt:131:12
 within8-requires : tie.Need-within8-requires
 within8-requires c κs = search needs
 
--- src/lib.rt:131:38
 within8-requires-2 : tie.Need-within8-requires-2
 within8-requires-2 c κs = search needs
 
--- src/lib.rt:131:64
 within64-requires : tie.Need-within64-requires
 within64-requires c κs = search needs
 
--- src/lib.rt:126:1
 returns : tie.Need-returns
 unfolding rules0
 returns c =

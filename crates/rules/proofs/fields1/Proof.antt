@@ -6,56 +6,40 @@ use denote.Ref.{now}
 use Rattle.rules.proofs.Chains.{both, flat}
 use Rattle.rules.proofs.fields1.Statement.{statement}
 use Rattle.rules.proofs.fields1.Tie as tie
-use Rattle.rules.proofs.fields1.Reads as reads
-use Rattle.rules.proofs.fields1.Lts as lts
-use Rattle.rules.proofs.within16.Reads as within16-reads
-use Rattle.rules.proofs.within8.Reads as within8-reads
 
--- src/lib.rt:137:5
 within16-requires : tie.Need-within16-requires
 within16-requires c κs = search needs
 
--- src/lib.rt:138:12
 within16-requires-2 : tie.Need-within16-requires-2
 within16-requires-2 c κs = search needs
 
--- src/lib.rt:139:12
 within8-requires : tie.Need-within8-requires
 within8-requires c κs = search needs
 
--- src/lib.rt:140:12
 within16-requires-3 : tie.Need-within16-requires-3
 within16-requires-3 c κs = search needs
 
--- src/lib.rt:141:12
 within8-requires-2 : tie.Need-within8-requires-2
 within8-requires-2 c κs = search needs
 
--- src/lib.rt:142:12
 within8-requires-3 : tie.Need-within8-requires-3
 within8-requires-3 c κs = search needs
 
--- src/lib.rt:143:12
 within8-requires-4 : tie.Need-within8-requires-4
 within8-requires-4 c κs = search needs
 
--- src/lib.rt:144:12
 within8-requires-5 : tie.Need-within8-requires-5
 within8-requires-5 c κs = search needs
 
--- src/lib.rt:145:12
 within8-requires-6 : tie.Need-within8-requires-6
 within8-requires-6 c κs = search needs
 
--- src/lib.rt:146:12
 within8-requires-7 : tie.Need-within8-requires-7
 within8-requires-7 c κs = search needs
 
--- src/lib.rt:147:12
 within8-requires-8 : tie.Need-within8-requires-8
 within8-requires-8 c κs = search needs
 
--- src/lib.rt:134:1
 returns : tie.Need-returns
 unfolding rules1
 returns c =

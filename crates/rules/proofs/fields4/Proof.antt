@@ -6,58 +6,40 @@ use denote.Ref.{now}
 use Rattle.rules.proofs.Chains.{both, flat}
 use Rattle.rules.proofs.fields4.Statement.{statement}
 use Rattle.rules.proofs.fields4.Tie as tie
-use Rattle.rules.proofs.fields4.Reads as reads
-use Rattle.rules.proofs.fields4.Lts as lts
-use Rattle.rules.proofs.elevation_ok.Reads as elevation-ok-reads
-use Rattle.rules.proofs.mode_ok.Reads as mode-ok-reads
-use Rattle.rules.proofs.within16.Reads as within16-reads
-use Rattle.rules.proofs.within8.Reads as within8-reads
 
--- src/lib.rt:171:5
 within16-requires : tie.Need-within16-requires
 within16-requires c κs = search needs
 
--- src/lib.rt:172:12
 within16-requires-2 : tie.Need-within16-requires-2
 within16-requires-2 c κs = search needs
 
--- src/lib.rt:173:12
 within8-requires : tie.Need-within8-requires
 within8-requires c κs = search needs
 
--- src/lib.rt:174:12
 within8-requires-2 : tie.Need-within8-requires-2
 within8-requires-2 c κs = search needs
 
--- src/lib.rt:175:12
 within8-requires-3 : tie.Need-within8-requires-3
 within8-requires-3 c κs = search needs
 
--- src/lib.rt:176:12
 within8-requires-4 : tie.Need-within8-requires-4
 within8-requires-4 c κs = search needs
 
--- src/lib.rt:177:12
 within8-requires-5 : tie.Need-within8-requires-5
 within8-requires-5 c κs = search needs
 
--- src/lib.rt:178:12
 mode-ok-requires : tie.Need-mode-ok-requires
 mode-ok-requires c κs = search needs
 
--- src/lib.rt:179:12
 elevation-ok-requires : tie.Need-elevation-ok-requires
 elevation-ok-requires c κs = search needs
 
--- src/lib.rt:180:12
 within8-requires-6 : tie.Need-within8-requires-6
 within8-requires-6 c κs = search needs
 
--- src/lib.rt:181:12
 within16-requires-3 : tie.Need-within16-requires-3
 within16-requires-3 c κs = search needs
 
--- src/lib.rt:168:1
 returns : tie.Need-returns
 unfolding rules4
 returns c =

@@ -6,32 +6,22 @@ use denote.Ref.{now}
 use Rattle.rules.proofs.Chains.{both, flat}
 use Rattle.rules.proofs.fields5.Statement.{statement}
 use Rattle.rules.proofs.fields5.Tie as tie
-use Rattle.rules.proofs.fields5.Reads as reads
-use Rattle.rules.proofs.fields5.Lts as lts
-use Rattle.rules.proofs.within16.Reads as within16-reads
-use Rattle.rules.proofs.within8.Reads as within8-reads
 
--- src/lib.rt:200:5
 within16-requires : tie.Need-within16-requires
 within16-requires c κs = search needs
 
--- src/lib.rt:201:12
 within8-requires : tie.Need-within8-requires
 within8-requires c κs = search needs
 
--- src/lib.rt:202:12
 within16-requires-2 : tie.Need-within16-requires-2
 within16-requires-2 c κs = search needs
 
--- src/lib.rt:202:41
 within16-requires-3 : tie.Need-within16-requires-3
 within16-requires-3 c κs = search needs
 
--- src/lib.rt:202:70
 within8-requires-2 : tie.Need-within8-requires-2
 within8-requires-2 c κs = search needs
 
--- src/lib.rt:197:1
 returns : tie.Need-returns
 unfolding rules5
 returns c =

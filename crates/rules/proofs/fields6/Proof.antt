@@ -3,18 +3,13 @@ use Rattle.rules.specs.Rules.{rules6}
 use borrow.Author.Needs.{needs}
 use mathlib.Core.Path.{_∙_}
 use denote.Ref.{now}
-use Rattle.rules.proofs.Chains.{both, flat}
+use Rattle.rules.proofs.Chains.{flat}
 use Rattle.rules.proofs.fields6.Statement.{statement}
 use Rattle.rules.proofs.fields6.Tie as tie
-use Rattle.rules.proofs.fields6.Reads as reads
-use Rattle.rules.proofs.fields6.Lts as lts
-use Rattle.rules.proofs.within8.Reads as within8-reads
 
--- src/lib.rt:208:5
 within8-requires : tie.Need-within8-requires
 within8-requires c κs = search needs
 
--- src/lib.rt:205:1
 returns : tie.Need-returns
 unfolding rules6
 returns c =

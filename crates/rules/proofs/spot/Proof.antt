@@ -9,32 +9,25 @@ use Rattle.octets.proofs.Laws.{be-past}
 use Rattle.rules.specs.Rules.{field}
 use Rattle.rules.proofs.spot.Statement.{statement}
 use Rattle.rules.proofs.spot.Tie as tie
-use Rattle.rules.proofs.spot.Reads as reads
-use Rattle.rules.proofs.spot.Lts as lts
 
--- src/lib.rt:54:9
 returns : tie.Need-returns
 unfolding field
 returns c w =
     let a = c .before .args in
     be-past (now (a .s)) (length (now (a .s))) w (omega arith) ∙ sym (be-past (now (a .s)) (a .at + a .k - 1) w (omega arith))
 
--- src/lib.rt:56:13
 add-p : tie.Need-add-p
 add-p c = search needs
 
--- src/lib.rt:57:28
 sub-result : tie.Need-sub-result
 sub-result c = search needs
 
--- src/lib.rt:50:1
 returns-2 : tie.Need-returns-2
 unfolding field
 returns-2 c w =
     let a = c .before .before .args in
     ap (λ (p : ℕ). be (now (a .s)) p w) (omega arith)
 
--- src/lib.rt:50:1
 returns-3 : tie.Need-returns-3
 unfolding field
 returns-3 c w = refl
