@@ -4,3 +4,7 @@ pub mod Faults
 pub mod Stepping
 pub mod Sections
 pub mod Along
+pub mod Own
+pub mod Grammar
+pub mod Exact
+pub mod GoodCuts

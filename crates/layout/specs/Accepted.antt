@@ -80,20 +80,24 @@ module _ (s : List ℕ) (end : ℕ) where
     shared : {s3 at next : ℕ} {c : Cut} {cs : List Cut}
         → Body first s3 at c next → Cuts first s3 next cs → Cuts first s3 at (c ∷ cs)
 
--- 0, 1, then 1 to 64 cuts, then 8; the first cut needs a 3
+  -- 1, then 1 to 64 cuts, then 8; the first cut needs a 3
+  pub record PastZero (cs : List Cut) : Type 0 where
+    pub s3 : ℕ
+    pub s4 : ℕ
+    pub next : ℕ
+    pub cut : Cut
+    pub later : List Cut
+    pub one : Section1 16 s3
+    pub three : Section3 s3 s4
+    pub body : Body s4 s3 s4 cut next
+    pub cuts : Cuts s4 s3 next later
+    pub few : length cs ≤ 64
+    pub eight : Meets s end rules8
+    pub are : cs ≡ cut ∷ later
+
+-- an accepted file and its cuts: section 0, and what comes past it, up to the last four octets
 pub record Accepted (s : List ℕ) (cs : List Cut) : Type 0 where
   pub small : 20 ≤ length s
   pub large : length s ≤ 8388608
   pub zero : Meets s 0 (rules0 (length s))
-  pub s3 : ℕ
-  pub s4 : ℕ
-  pub next : ℕ
-  pub cut : Cut
-  pub later : List Cut
-  pub one : Section1 s (endOf s) 16 s3
-  pub three : Section3 s (endOf s) s3 s4
-  pub body : Body s (endOf s) s4 s3 s4 cut next
-  pub cuts : Cuts s (endOf s) s4 s3 next later
-  pub few : length cs ≤ 64
-  pub eight : Meets s (endOf s) rules8
-  pub are : cs ≡ cut ∷ later
+  pub past : PastZero s (endOf s) cs

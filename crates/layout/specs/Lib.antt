@@ -5,4 +5,5 @@ pub mod History
 pub mod Verdict
 pub mod Accepted
 pub mod Refused
+pub mod Good
 pub mod Walk
