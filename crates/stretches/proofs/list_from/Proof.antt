@@ -1,0 +1,38 @@
+-- The table of kinds agrees with the scale on every level of the data, so the list is the same.
+use mathlib.Core.Path.{ap, _∙_}
+use Prim.Native.Nat.{_+_, _*_}
+use native.Mathlib.Omega.{arith}
+use mir.Syntax.{w32}
+use mir.ValLaws.{toZ-ofZ}
+use denote.Ref.{now}
+use Rattle.values.specs.Reading.{readingOf, kindOf, KindsBy}
+use Rattle.stretches.proofs.Scales.{table-listed, point-small}
+use borrow.Author.Needs.{needs}
+use Rattle.stretches.proofs.list_from.Statement.{statement}
+use Rattle.stretches.proofs.list_from.Tie as tie
+
+kinds-by-requires : tie.Need-kinds-by-requires
+kinds-by-requires c κs = search needs
+
+mul-list-by : tie.Need-mul-list-by
+mul-list-by c = let s = c .before .before .before .before in omega (arith, point-small (s .args .nb) (s .args .nr) (s .args .ray) (s .args .bin) (s .pre .1 .1) (s .pre .0 .nb-le) (s .pre .0 .nr-le))
+
+add-list-by : tie.Need-add-list-by
+add-list-by c = let s = c .before .before .before .before in omega (arith, point-small (s .args .nb) (s .args .nr) (s .args .ray) (s .args .bin) (s .pre .1 .1) (s .pre .0 .nb-le) (s .pre .0 .nr-le))
+
+list-by-requires : tie.Need-list-by-requires
+list-by-requires c κs = search needs
+
+same-length : tie.Need-same-length
+same-length c = search needs
+
+returns : tie.Need-returns
+returns c = let s = c .before .before .before .before .before .before .before .before in
+    let a = s .args in
+    let k : KindsBy (a .product) (a .t) (c .before .before .before .before .before .kinds-by .result) = λ l h. c .before .before .before .before .before .kinds-by .ensures l h ∙ ap (kindOf (readingOf (a .product) l)) (toZ-ofZ w32 (a .t) (s .fits .t)) in
+    rw (← table-listed (a .product) (a .t) (c .before .before .before .before .before .kinds-by .result) (a .v) (now (a .octets)) (a .nb) (a .nr) (a .ray * a .nb + a .bin) k (s .pre .1 .0)) (c .before .before .list-by .ensures)
+
+pub list-from-spec : {M : Type 1} → statement M
+list-from-spec =
+    tie.close
+    (tie.spec kinds-by-requires mul-list-by add-list-by list-by-requires same-length returns)

@@ -1,0 +1,60 @@
+-- Document 01, "Calls", Stretches: what a call lists, what it answers, and what it leaves in the lent words.
+use Prim.Native.Nat.{ℕ, _*_, _/_, _≤_, _<_}
+use mathlib.Core.Path.{_≡_}
+use mathlib.Core.Bool.{Bool, true, not, _&&_, _||_}
+use mathlib.Core.List.{List, [], _∷_}
+use lib.Dec.{ltb, eqb}
+use lib.Signed.{ltZ}
+use lib.ListN.{length, getD, take, drop}
+use lib.Seq.{sets}
+use lib.IntN.{ℤ, pos, negsuc}
+use Rattle.runs.specs.Run.{levels, gives}
+use Rattle.values.specs.Reading.{readingOf, kindOf}
+use Rattle.values.specs.declared.Product.{Product}
+use Rattle.stretches.specs.Stretch.{Entry, Scale, perEntry, stretchesOf, past, wordsOf}
+use Rattle.stretches.specs.declared.Listing.{Listing}
+
+-- the scale of a product and a threshold: "kind 0 missing, 1 value below T, 2 value at or above T"
+abbrev pub scaleOf : Product → ℤ → Scale
+scaleOf p t = record { kind = λ l. kindOf (readingOf p l) t }
+
+-- a scale by a table of kinds
+abbrev pub scaleBy : List ℕ → Scale
+scaleBy ks = record { kind = λ l. getD ks l 0 }
+
+-- "Lists in order the stretches that start at or past the point": all of them, q being the point's place
+unfoldable pub listed : Scale → ℕ → List ℕ → ℕ → ℕ → ℕ → List Entry
+listed sc v xs nb nr q = past nb q (stretchesOf sc (levels v xs) nb (nr * nb))
+
+-- "as many as fit": the entries that n words have room for
+abbrev pub fitting : ℕ → List Entry → List Entry
+fitting n es = take (n / perEntry) es
+
+-- "the count and the next point: the first unlisted start at or past the point, or (Nr, 0) if none"
+abbrev pub answer : ℕ → ℕ → List Entry → Listing
+answer nr count [] = record { count = count; ray = nr; bin = 0 }
+answer nr count (e ∷ es) = record { count = count; ray = e .ray; bin = e .first }
+
+-- what is answered where the list is es and the room n words
+unfoldable pub answerOf : ℕ → ℕ → List Entry → Listing
+answerOf nr n es = answer nr (length (fitting n es)) (drop (n / perEntry) es)
+
+-- the words that held `out`, afterwards
+unfoldable pub outOf : List ℕ → List Entry → List ℕ
+outOf out es = sets out 0 (wordsOf (fitting (length out) es))
+
+-- a cut's data: nr rays of nb bins, run-length coded under v
+pub record Part (v nb nr : ℕ) (xs : List ℕ) : Type 0 where
+  pub v-le : v ≤ 253
+  pub nb-pos : 0 < nb
+  pub nb-le : nb ≤ 2048
+  pub nr-le : nr ≤ 1024
+  pub given : gives v (nr * nb) xs ≡ true
+
+-- "threshold T in hundredths (-32767 to 32767)"
+unfoldable pub rightT : ℤ → Bool
+rightT t = not (ltZ t (negsuc 32766)) && not (ltZ (pos 32767) t)
+
+-- "A point may be (r, b) inside the grid or (Nr, 0)"
+unfoldable pub rightPoint : ℕ → ℕ → ℕ → ℕ → Bool
+rightPoint nb nr ray bin = (ltb ray nr && ltb bin nb) || (eqb ray nr && eqb bin 0)

@@ -1,0 +1,5 @@
+pub mod Stretch
+pub mod Call
+pub mod Meaning
+pub mod Portions
+pub mod Feed

@@ -1,0 +1,213 @@
+// The stretch list: every longest stretch of one kind on each ray of a cut, by ray and then by first bin. specs/Meaning.antt says what
+// that list is, specs/Stretch.antt computes it, and proofs/ has that they agree, that there is only one such list, and that the
+// portions of a fetching join to it. Stands on `runs` (a cut's levels) and `values` (the kind of a level); `polar` calls it for a file.
+//
+// The work goes straight over the runs: in time it is the data's octets and the entries, whatever the number of bins.
+use runs::Step;
+use values::Product;
+ghost use mathlib.Core.Bool.{true, cond};
+ghost use mathlib.Core.Path.{_≡_};
+ghost use mathlib.Core.List.{[], _∷_};
+ghost use Prim.Native.Nat.{_+_, _*_, _≤_, _<_};
+ghost use lib.ListN.{length, drop};
+ghost use lib.Seq.{sets};
+ghost use Rattle.runs.specs.Run.{opens};
+ghost use Rattle.values.specs.Published.{levelCount};
+ghost use Rattle.stretches.specs.Feed.{pending, Refilled};
+ghost use Rattle.stretches.specs.Stretch.{perEntry, toList};
+ghost use Rattle.stretches.specs.Call.{Part, scaleOf, scaleBy, listed, answerOf, outOf, rightT, rightPoint};
+
+// How many words an entry takes.
+pub const WORDS: usize = 4;
+
+// How many entries were written, and the point where the next call goes on.
+pub struct Listing {
+    pub count: usize,
+    pub ray: usize,
+    pub bin: usize,
+}
+
+// Where reading stands: the place of the next level octet, and what is left of the run in hand.
+struct Feed {
+    at: usize,
+    left: usize,
+    level: u8,
+}
+
+// The same feed with some of a run in hand.
+fn refilled(octets: &[u8], v: u8, f: Feed) -> Feed
+    requires { ⌜ (v ≤ 253) × (opens v (drop (f .at) (now octets)) ≡ true) ⌝ }
+    requires { ⌜ (0 < length (pending v (now octets) f)) × (length (pending v (now octets) f) ≤ 2097152) ⌝ }
+    ensures { λ r. ⌜ Refilled v (now (octets .entry)) f r ⌝ }
+{
+    let left = f.left;
+    if 0 < left {
+        return f;
+    }
+    let at = f.at;
+    let step = runs::run_at(octets, v, at, 2097152);
+    match step {
+        Step::Run { level, len, next } => Feed {
+            at: next,
+            left: len,
+            level,
+        },
+        Step::Above | Step::Over | Step::End => f,
+    }
+}
+
+// Whether the bins of a ray from first up to end are a stretch to list, where the list begins at place from.
+fn to_list(nb: usize, from: usize, ray: usize, first: usize, end: usize) -> bool
+    requires { ⌜ (nb ≤ 2048) × (ray ≤ 1024) × (first ≤ 2048) ⌝ }
+    ensures { λ r. ⌜ r ≡ toList from (ray * nb + first) (ray * nb + end) ⌝ }
+{
+    if ray * nb + first < from {
+        return false;
+    }
+    first < end
+}
+
+// Writes an entry after the first count, where there is one to write.
+fn put(
+    out: &mut [u32],
+    count: usize,
+    wanted: bool,
+    ray: usize,
+    first: usize,
+    len: usize,
+    kind: u32,
+) -> usize
+    requires { ⌜ (ray ≤ 1024) × (first ≤ 2048) × (len ≤ 2048) ⌝ }
+    requires { ⌜ perEntry * (count + cond wanted 1 0) ≤ length (now out) ⌝ }
+    ensures { λ r. ⌜ r ≡ count + cond wanted 1 0 ⌝ }
+    ensures { λ _. ⌜ now (out .exit) ≡ sets (now (out .entry)) (perEntry * count) (cond wanted (ray ∷ first ∷ len ∷ kind ∷ []) []) ⌝ }
+{
+    if !wanted {
+        return count;
+    }
+    let i = WORDS * count;
+    out[i] = ray as u32;
+    out[i + 1] = first as u32;
+    out[i + 2] = len as u32;
+    out[i + 3] = kind;
+    count + 1
+}
+
+// The stretches by a table of kinds that start at place from or past it, as many as out has room for.
+//
+// A turn takes what the run in hand has of the ray. The stretch in hand, bins first up to bin of the ray, ends before it if the kinds
+// differ, and ends at the ray's end whatever comes after.
+fn list_by(
+    octets: &[u8],
+    v: u8,
+    kinds: &[u32; 256],
+    nb: usize,
+    nr: usize,
+    from: usize,
+    out: &mut [u32],
+) -> Listing
+    requires { ⌜ Part v nb nr (now octets) ⌝ }
+    ensures { λ r. ⌜ r ≡ answerOf nr (length (now (out .entry))) (listed (scaleBy (now (kinds .entry))) v (now (octets .entry)) nb nr from) ⌝ }
+    ensures { λ _. ⌜ now (out .exit) ≡ outOf (now (out .entry)) (listed (scaleBy (now (kinds .entry))) v (now (octets .entry)) nb nr from) ⌝ }
+{
+    let cap = out.len() / WORDS;
+    let mut feed = Feed {
+        at: 0,
+        left: 0,
+        level: 0,
+    };
+    let mut ray: usize = 0;
+    let mut bin: usize = 0;
+    let mut first: usize = 0;
+    let mut held: u32 = 0;
+    let mut count: usize = 0;
+    while ray < nr {
+        let f = refilled(octets, v, feed);
+        let at = f.at;
+        let left = f.left;
+        let level = f.level;
+        let kind = kinds[level as usize];
+        if kind != held {
+            let ended = to_list(nb, from, ray, first, bin);
+            if ended & (cap <= count) {
+                return Listing {
+                    count,
+                    ray,
+                    bin: first,
+                };
+            }
+            count = put(out, count, ended, ray, first, bin - first, held);
+            first = bin;
+            held = kind;
+        }
+        let room = nb - bin;
+        if left < room {
+            bin = bin + left;
+            feed = Feed { at, left: 0, level };
+            continue;
+        }
+        let whole = to_list(nb, from, ray, first, nb);
+        if whole & (cap <= count) {
+            return Listing {
+                count,
+                ray,
+                bin: first,
+            };
+        }
+        count = put(out, count, whole, ray, first, nb - first, held);
+        ray = ray + 1;
+        bin = 0;
+        first = 0;
+        feed = Feed {
+            at,
+            left: left - room,
+            level,
+        };
+    }
+    Listing {
+        count,
+        ray: nr,
+        bin: 0,
+    }
+}
+
+// Whether a threshold may be asked for.
+pub fn right_t(t: i32) -> bool
+    ensures { λ r. ⌜ r ≡ rightT t ⌝ }
+{
+    if t < -32767 {
+        return false;
+    }
+    if 32767 < t { false } else { true }
+}
+
+// Whether a point may be asked for.
+pub fn right_point(nb: usize, nr: usize, ray: usize, bin: usize) -> bool
+    ensures { λ r. ⌜ r ≡ rightPoint nb nr ray bin ⌝ }
+{
+    if ray < nr {
+        return bin < nb;
+    }
+    if ray == nr { bin == 0 } else { false }
+}
+
+// The stretches of a cut's data that start at the point (ray, bin) or past it, as many as out has room for.
+pub fn list_from(
+    octets: &[u8],
+    v: u8,
+    product: Product,
+    t: i32,
+    nb: usize,
+    nr: usize,
+    ray: usize,
+    bin: usize,
+    out: &mut [u32],
+) -> Listing
+    requires { ⌜ Part v nb nr (now octets) ⌝ }
+    requires { ⌜ (v ≤ levelCount product) × (rightPoint nb nr ray bin ≡ true) ⌝ }
+    ensures { λ r. ⌜ r ≡ answerOf nr (length (now (out .entry))) (listed (scaleOf product t) v (now (octets .entry)) nb nr (ray * nb + bin)) ⌝ }
+    ensures { λ _. ⌜ now (out .exit) ≡ outOf (now (out .entry)) (listed (scaleOf product t) v (now (octets .entry)) nb nr (ray * nb + bin)) ⌝ }
+{
+    let kinds = values::kinds_by(product, t);
+    list_by(octets, v, &kinds, nb, nr, ray * nb + bin, out)
+}
