@@ -52,7 +52,11 @@ fn calls(name: &str, file: &[u8]) {
         || assert_eq!(plain::rays::ray_values(black_box(file), last, ray, &mut plain, &mut plain_values), Ok(())),
     );
     assert_eq!((ours, our_values), (plain, plain_values));
-    table.row("bin value", || polar_sys::bin_value(black_box(file), last, ray, bin, &mut 0.0, &mut [0; 2]), || plain::rays::bin_value(black_box(file), last, ray, bin).is_ok());
+    table.row(
+        "bin value",
+        || polar_sys::bin_value(black_box(file), last, ray, bin, &mut 0.0, &mut [0; 2]),
+        || plain::rays::bin_value(black_box(file), last, ray, bin).is_ok(),
+    );
     #[cfg(feature = "stretches")]
     list(&table, file, last, bins * grid.rays);
 }

@@ -24,10 +24,18 @@ pub fn rows() {
     let noise = CutPlan::of_levels(600, 105, &n.levels(63_000, 0, 251, 1));
     let cuts = (0..60).map(|_| CutPlan::of_levels(200, 4, &n.levels(800, 0, 200, 4))).collect();
     let input = std::env::temp_dir().join(format!("bench-lister-{}", std::process::id()));
-    for (name, file) in [("small", document_sample().file()), ("a cut of noise", Plan::new(Product::Reflectivity, vec![noise]).file()), ("60 cuts", Plan::new(Product::Reflectivity, cuts).file())] {
+    for (name, file) in [
+        ("small", document_sample().file()),
+        ("a cut of noise", Plan::new(Product::Reflectivity, vec![noise]).file()),
+        ("60 cuts", Plan::new(Product::Reflectivity, cuts).file()),
+    ] {
         fs::write(&input, &file).expect("a folder for files of a while");
         assert!(output(Command::new(&tool).arg("lister"), &input) == output(&mut Command::new(&plain), &input));
-        Table::new(&format!("lister, {name}"), file.len()).row("with the time to start a program", || output(Command::new(&tool).arg("lister"), &input), || output(&mut Command::new(&plain), &input));
+        Table::new(&format!("lister, {name}"), file.len()).row(
+            "with the time to start a program",
+            || output(Command::new(&tool).arg("lister"), &input),
+            || output(&mut Command::new(&plain), &input),
+        );
     }
     fs::remove_file(&input).expect("the input");
 }

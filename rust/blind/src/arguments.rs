@@ -60,7 +60,8 @@ fn hundredths(text: &str) -> Option<i32> {
 }
 
 pub fn parse(words: impl Iterator<Item = String>) -> Result<Asked, String> {
-    let mut asked = Arguments { files: vec![], threshold: HOUSE_THRESHOLD, kinds: vec![], cut: None, totals_only: false, form: Form::Text, svg: None };
+    let mut asked =
+        Arguments { files: vec![], threshold: HOUSE_THRESHOLD, kinds: vec![], cut: None, totals_only: false, form: Form::Text, svg: None };
     let mut words = words;
     let mut options = true;
     while let Some(word) = words.next() {
@@ -82,7 +83,8 @@ pub fn parse(words: impl Iterator<Item = String>) -> Result<Asked, String> {
             "--" => options = false,
             "--threshold" => {
                 let text = value()?;
-                asked.threshold = hundredths(&text).ok_or(format!("{text}: a threshold is a number from -327.67 to 327.67 with up to two decimals"))?;
+                asked.threshold =
+                    hundredths(&text).ok_or(format!("{text}: a threshold is a number from -327.67 to 327.67 with up to two decimals"))?;
             }
             "--kind" => {
                 let text = value()?;
@@ -122,7 +124,14 @@ mod tests {
 
     #[test]
     fn thresholds() {
-        for (text, expected) in [("40.00", Some(4000)), ("40", Some(4000)), ("0.5", Some(50)), ("-7.25", Some(-725)), ("327.67", Some(32767)), ("-327.67", Some(-32767))] {
+        for (text, expected) in [
+            ("40.00", Some(4000)),
+            ("40", Some(4000)),
+            ("0.5", Some(50)),
+            ("-7.25", Some(-725)),
+            ("327.67", Some(32767)),
+            ("-327.67", Some(-32767)),
+        ] {
             assert_eq!(hundredths(text), expected, "{text}");
         }
         for text in ["", "-", ".5", "1.234", "327.68", "1e3", "+4", "4,0", "--4", "4.-1", "9999"] {
@@ -132,7 +141,9 @@ mod tests {
 
     #[test]
     fn options() {
-        let Ok(Asked::List(asked)) = parsed("--threshold=-5 --kind missing --kind over --cut 2 --json a -") else { panic!("sound options") };
+        let Ok(Asked::List(asked)) = parsed("--threshold=-5 --kind missing --kind over --cut 2 --json a -") else {
+            panic!("sound options")
+        };
         assert_eq!((asked.threshold, asked.cut, asked.form), (-500, Some(2), Form::Json));
         assert_eq!((asked.kinds, asked.files), (vec![Kind::Missing, Kind::Over], vec!["a".to_string(), "-".into()]));
         let Ok(Asked::List(asked)) = parsed("-- --csv") else { panic!("a file named --csv") };

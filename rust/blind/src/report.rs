@@ -118,9 +118,15 @@ impl<'a, W: Write> Report<'a, W> {
 
     fn cut_as_text(&mut self, survey: &CutSurvey) -> io::Result<()> {
         let cut = &survey.cut;
-        let elevation = cut.elevation().map_or("unknown elevation".into(), |angle| format!("elevation {} degrees", Hundredths(angle.into())));
+        let elevation =
+            cut.elevation().map_or("unknown elevation".into(), |angle| format!("elevation {} degrees", Hundredths(angle.into())));
         let (rays, bins, unit) = (cut.ray_count(), cut.bin_count(), cut.file().product().unit());
-        writeln!(self.out, "cut {}: {elevation}, {rays} rays of {bins} bins, threshold {} {unit}", cut.index(), Hundredths(survey.threshold))?;
+        writeln!(
+            self.out,
+            "cut {}: {elevation}, {rays} rays of {bins} bins, threshold {} {unit}",
+            cut.index(),
+            Hundredths(survey.threshold)
+        )?;
         if !self.asked.totals_only {
             writeln!(self.out, "  ray  azimuth  first  bins   from km     to km  kind")?;
         }
@@ -154,8 +160,19 @@ impl<'a, W: Write> Report<'a, W> {
         let cut = &survey.cut;
         let elevation = cut.elevation().map_or("null".into(), |angle| Hundredths(angle.into()).to_string());
         let comma = if self.cuts_before { "," } else { "" };
-        write!(self.out, "{comma}\n {{\"cut\":{},\"elevation\":{elevation},\"bins\":{},\"rays\":{},", cut.index(), cut.bin_count(), cut.ray_count())?;
-        write!(self.out, "\"start_azimuth\":{},\"spacing_m\":{},", Hundredths(cut.start_azimuth().into()), f64::from(cut.spacing()) / 1000.0)?;
+        write!(
+            self.out,
+            "{comma}\n {{\"cut\":{},\"elevation\":{elevation},\"bins\":{},\"rays\":{},",
+            cut.index(),
+            cut.bin_count(),
+            cut.ray_count()
+        )?;
+        write!(
+            self.out,
+            "\"start_azimuth\":{},\"spacing_m\":{},",
+            Hundredths(cut.start_azimuth().into()),
+            f64::from(cut.spacing()) / 1000.0
+        )?;
         write!(self.out, "\"threshold\":{},\"stretches\":[", Hundredths(survey.threshold))?;
         let mut separator = "";
         for stretch in self.wanted(survey) {

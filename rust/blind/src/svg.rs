@@ -114,8 +114,13 @@ fn add_rings(svg: &mut String, plane: &Plane, reach: f64) {
     while metres <= reach * 1.0001 {
         let radius = metres * plane.scale;
         let (x, y) = plane.point(0.0, metres);
-        let _ = writeln!(svg, "<circle cx=\"{}\" cy=\"{}\" r=\"{radius:.1}\" fill=\"none\" stroke=\"{INK}\" stroke-width=\"0.6\" stroke-opacity=\"0.45\"/>", MIDDLE.0, MIDDLE.1);
-        let _ = writeln!(svg, "<text x=\"{:.1}\" y=\"{:.1}\" font-size=\"12\" fill=\"{INK}\">{} km</text>", x + 3.0, y + 13.0, metres / 1000.0);
+        let _ = writeln!(
+            svg,
+            "<circle cx=\"{}\" cy=\"{}\" r=\"{radius:.1}\" fill=\"none\" stroke=\"{INK}\" stroke-width=\"0.6\" stroke-opacity=\"0.45\"/>",
+            MIDDLE.0, MIDDLE.1
+        );
+        let _ =
+            writeln!(svg, "<text x=\"{:.1}\" y=\"{:.1}\" font-size=\"12\" fill=\"{INK}\">{} km</text>", x + 3.0, y + 13.0, metres / 1000.0);
         metres += spacing;
     }
     for (azimuth, name) in [(0.0, "N"), (90.0, "E"), (180.0, "S"), (270.0, "W")] {
@@ -123,7 +128,8 @@ fn add_rings(svg: &mut String, plane: &Plane, reach: f64) {
         let (x1, y1) = plane.point(azimuth, reach * 1.02);
         let (x, y) = plane.point(azimuth, reach * 1.055);
         let _ = writeln!(svg, "<path stroke=\"{INK}\" d=\"M{x0:.1} {y0:.1}L{x1:.1} {y1:.1}\"/>");
-        let _ = writeln!(svg, "<text x=\"{x:.1}\" y=\"{:.1}\" font-size=\"18\" text-anchor=\"middle\" fill=\"{INK}\">{name}</text>", y + 6.0);
+        let _ =
+            writeln!(svg, "<text x=\"{x:.1}\" y=\"{:.1}\" font-size=\"18\" text-anchor=\"middle\" fill=\"{INK}\">{name}</text>", y + 6.0);
     }
 }
 
@@ -136,7 +142,13 @@ fn add_words(svg: &mut String, survey: &CutSurvey) {
     let _ = writeln!(svg, "<text x=\"30\" y=\"62\" font-size=\"15\" fill=\"{INK}\">{under}</text>");
     for (kind, x) in Kind::ALL.into_iter().zip([30.0, 335.0, 600.0]) {
         let _ = writeln!(svg, "<rect x=\"{x}\" y=\"969\" width=\"14\" height=\"14\" fill=\"{}\"/>", colour(kind));
-        let _ = writeln!(svg, "<text x=\"{}\" y=\"981\" font-size=\"14\" fill=\"{INK}\">{}, {:.1} %</text>", x + 20.0, meaning(kind), survey.percent(kind));
+        let _ = writeln!(
+            svg,
+            "<text x=\"{}\" y=\"981\" font-size=\"14\" fill=\"{INK}\">{}, {:.1} %</text>",
+            x + 20.0,
+            meaning(kind),
+            survey.percent(kind)
+        );
     }
 }
 

@@ -87,7 +87,14 @@ impl<'a> File<'a> {
         Refusal::check(number, answer[0])?;
         let [_, product, year, month, day, hour, minute, second, site, cuts] = answer;
         let small = |word: u64| word as u8;
-        let time = Time { year: year as u16, month: small(month), day: small(day), hour: small(hour), minute: small(minute), second: small(second) };
+        let time = Time {
+            year: year as u16,
+            month: small(month),
+            day: small(day),
+            hour: small(hour),
+            minute: small(minute),
+            second: small(second),
+        };
         let product = if product == 1 { Product::Reflectivity } else { Product::Velocity };
         Ok(File { octets, product, time, site: site as u16, cuts: cuts as usize })
     }

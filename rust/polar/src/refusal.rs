@@ -56,7 +56,9 @@ impl Reason {
     pub fn meaning(self) -> &'static str {
         match self {
             Reason::FileSize => "the file is shorter than 20 octets or longer than 8,388,608",
-            Reason::SectionZero => "this is no radar file, or it was cut short: its first 16 octets are not as they should be, or say another length",
+            Reason::SectionZero => {
+                "this is no radar file, or it was cut short: its first 16 octets are not as they should be, or say another length"
+            }
             Reason::Sections => "the sections do not follow each other as they should, or the file's end is wrong",
             Reason::SectionLength => "a section has not the length that it should have",
             Reason::Field => "a field of a section is outside what it may be",

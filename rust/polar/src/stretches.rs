@@ -85,7 +85,8 @@ impl<'a> Stretches<'a> {
 
     fn fetch(&mut self) -> Result<(), Refusal> {
         let mut answer = [0; 4];
-        let number = polar_sys::stretches(self.cut.file().octets(), self.cut.index(), self.threshold, self.point, &mut self.words, &mut answer);
+        let number =
+            polar_sys::stretches(self.cut.file().octets(), self.cut.index(), self.threshold, self.point, &mut self.words, &mut answer);
         let [place, count, ray, bin] = answer;
         Refusal::check(number, place)?;
         (self.at, self.end, self.point) = (0, ENTRY * count as usize, (ray as usize, bin as usize));

@@ -41,8 +41,14 @@ fn made_files() {
         for (cut, of_cut) in file.cuts().zip(&accepted.cuts) {
             let grid = of_cut.grid;
             assert_eq!((cut.bin_count(), cut.ray_count(), cut.latitude()), (grid.bins, grid.rays, grid.latitude));
-            assert_eq!((u64::from(cut.spacing()), u64::from(cut.start()), u64::from(cut.start_azimuth())), (grid.dx, grid.dstart, grid.azimuth));
-            assert_eq!((cut.elevation().map(i64::from), cut.mode(), cut.longitude() as u64), (of_cut.elevation, of_cut.mode, grid.longitude));
+            assert_eq!(
+                (u64::from(cut.spacing()), u64::from(cut.start()), u64::from(cut.start_azimuth())),
+                (grid.dx, grid.dstart, grid.azimuth)
+            );
+            assert_eq!(
+                (cut.elevation().map(i64::from), cut.mode(), cut.longitude() as u64),
+                (of_cut.elevation, of_cut.mode, grid.longitude)
+            );
             for ray in cut.rays() {
                 let expected: Vec<Option<i32>> = of_cut.ray(ray.index()).iter().map(|level| accepted.product.value(*level)).collect();
                 assert_eq!(ray.values().collect::<Vec<_>>(), expected);

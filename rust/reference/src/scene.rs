@@ -77,10 +77,21 @@ impl Scene {
             let (east, north) = sine_cosine(azimuth);
             // the crest goes up and down along the ridge
             let crest = rough.below(5) as f64 * spacing;
-            let shadow = self.ridges.iter().filter(|r| r.from <= azimuth && azimuth < r.to && angle < r.hides).map(|r| r.distance + crest).fold(f64::INFINITY, f64::min);
+            let shadow = self
+                .ridges
+                .iter()
+                .filter(|r| r.from <= azimuth && azimuth < r.to && angle < r.hides)
+                .map(|r| r.distance + crest)
+                .fold(f64::INFINITY, f64::min);
             for bin in 0..grid.bins {
                 let distance = (bin as f64 + 0.5) * spacing;
-                let sight = Sight { east: east * distance, north: north * distance, direction: (east, north), height: rise * distance, hidden: distance >= shadow };
+                let sight = Sight {
+                    east: east * distance,
+                    north: north * distance,
+                    direction: (east, north),
+                    height: rise * distance,
+                    hidden: distance >= shadow,
+                };
                 levels.push(on_bin(&sight, &mut rough));
             }
         }

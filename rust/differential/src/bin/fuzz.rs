@@ -17,7 +17,7 @@ use std::time::{Duration, Instant};
 fn argument(limit: usize, n: &mut Numbers) -> usize {
     match n.below(12) {
         0 => n.one_of(&[0, usize::MAX, usize::MAX - 1, 1 << 31, u32::MAX as usize, 1 << 32, (1 << 32) + 1, 1 << 63, isize::MAX as usize]),
-        1 => n.next() as usize,
+        1 => n.word() as usize,
         2 => limit,
         3 => limit + 1,
         4 => limit.saturating_sub(1),
@@ -29,7 +29,7 @@ fn threshold(product: Product, n: &mut Numbers) -> i32 {
     match n.below(5) {
         0 => HOUSE_THRESHOLD,
         1 => n.one_of(&[i32::MIN, i32::MAX, -32768, -32767, 32767, 32768, 0, -1]),
-        2 => n.next() as i32,
+        2 => n.word() as i32,
         3 => product.value(n.within(1, 251) as u8).unwrap_or(0) + n.below(3) as i32 - 1,
         _ => n.below(17_000) as i32 - 8500,
     }
