@@ -4,7 +4,7 @@ ghost use mathlib.Core.Path.{_≡_};
 ghost use Prim.Native.Nat.{_≤_, _+_};
 ghost use lib.ListN.{length};
 ghost use Rattle.runs.specs.Lent.{front, placed};
-ghost use Rattle.packing.specs.Write.{greatest, digitsOf, code, written, packed, writeAnswer, writeOut};
+ghost use Rattle.packing.specs.Write.{greatest, digitsOf, code, written, WritePromise};
 
 // The greatest level.
 fn greatest_of(levels: &[u8]) -> u8
@@ -121,8 +121,7 @@ pub enum RunWrite {
 
 // Run write: the octets for the levels, at the front of out.
 pub fn run_write(levels: &[u8], out: &mut [u8]) -> RunWrite
-    ensures { λ r. ⌜ r ≡ writeAnswer (length (now (out .entry))) (now (levels .entry)) ⌝ }
-    ensures { λ r. ⌜ now (out .exit) ≡ writeOut r (packed (now (levels .entry))) (now (out .entry)) ⌝ }
+    ensures { λ r. ⌜ WritePromise (now (levels .entry)) (now (out .entry)) r (now (out .exit)) ⌝ }
 {
     if 2097152 < levels.len() {
         return RunWrite::Refused(WriteRefusal::LevelsOutOfRange);

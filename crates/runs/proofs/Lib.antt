@@ -3,3 +3,5 @@ pub mod Scanning
 pub mod Steps
 pub mod Here
 pub mod Lent
+pub mod Meaning
+pub mod Calls

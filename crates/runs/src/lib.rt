@@ -7,7 +7,7 @@ ghost use Prim.Native.Nat.{_≤_, _-_};
 ghost use lib.ListN.{length, replicate};
 ghost use Rattle.runs.specs.Run.{levels, opens, scanned, stepAt};
 ghost use Rattle.runs.specs.Lent.{front, placed, between};
-ghost use Rattle.runs.specs.Read.{readAnswer, readOut, checkAnswer};
+ghost use Rattle.runs.specs.Read.{ReadPromise, CheckPromise};
 
 // Whether octets give exactly the bins wanted.
 pub enum Scan {
@@ -170,8 +170,7 @@ pub enum RunRead {
 
 // Run read: the n levels that the octets give under V, at the front of out.
 pub fn run_read(octets: &[u8], v: u8, n: usize, out: &mut [u8]) -> RunRead
-    ensures { λ r. ⌜ r ≡ readAnswer v n (length (now (out .entry))) (now (octets .entry)) ⌝ }
-    ensures { λ r. ⌜ now (out .exit) ≡ readOut r (levels v (now (octets .entry))) (now (out .entry)) ⌝ }
+    ensures { λ r. ⌜ ReadPromise v n (now (octets .entry)) (now (out .entry)) r (now (out .exit)) ⌝ }
 {
     if 253 < v {
         return RunRead::Refused(ReadRefusal::VOver253);
@@ -205,7 +204,7 @@ pub enum RunCheck {
 
 // Run check: whether octets give exactly n bins under V, as run read would find, with nothing lent.
 pub fn run_check(octets: &[u8], v: u8, n: usize) -> RunCheck
-    ensures { λ r. ⌜ r ≡ checkAnswer v n (now (octets .entry)) ⌝ }
+    ensures { λ r. ⌜ CheckPromise v n (now (octets .entry)) r ⌝ }
 {
     if 253 < v {
         return RunCheck::Refused(CheckRefusal::VOver253);

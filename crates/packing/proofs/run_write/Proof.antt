@@ -14,7 +14,7 @@ use Rattle.packing.proofs.run_write.Tie as tie
 returns : tie.Need-returns
 unfolding writeAnswer
 returns c =
-    (simp (lt-ltb _ _ (c .if1 .taken)), refl)
+    record { answered = simp (lt-ltb _ _ (c .if1 .taken)); held = refl }
 
 greatest-of-requires : tie.Need-greatest-of-requires
 greatest-of-requires c κs = search needs
@@ -24,7 +24,7 @@ unfolding writeAnswer
 returns-2 c =
     let levels = c .before .before .before .before .before .args .levels .now in
     let high : 252 < greatest levels = omega (arith, c .before .greatest-of .ensures) in
-    (simp (le-ltb _ _ (c .before .before .if1 .left), lt-ltb _ _ high), refl)
+    record { answered = simp (le-ltb _ _ (c .before .before .if1 .left), lt-ltb _ _ high); held = refl }
 
 measure-requires : tie.Need-measure-requires
 measure-requires c κs = search needs
@@ -38,7 +38,7 @@ returns-3 c =
     let n = c .before .measure .ensures ∙ ap (λ (x : ℕ). length (written x levels)) v in
     let fits : greatest levels ≤ 252 = omega (arith, v) in
     let short : room < length (written (greatest levels) levels) = omega (arith, n) in
-    (simp (le-ltb _ _ (c .before .before .before .before .if1 .left), le-ltb _ _ fits, lt-ltb _ _ short), refl)
+    record { answered = simp (le-ltb _ _ (c .before .before .before .before .if1 .left), le-ltb _ _ fits, lt-ltb _ _ short); held = refl }
 
 put-all-requires : tie.Need-put-all-requires
 put-all-requires c κs =
@@ -55,10 +55,11 @@ returns-4 c =
     let v = c .before .before .before .before .before .before .before .greatest-of .ensures in
     let n = c .before .before .before .before .before .measure .ensures ∙ ap (λ (x : ℕ). length (written x levels)) v in
     let fits : greatest levels ≤ 252 = omega (arith, v) in
-    let enough : length (written (greatest levels) levels) ≤ room = omega (arith, n, c .before .before .before .before .if3 .left) in (
-      simp (le-ltb _ _ (c .before .before .before .before .before .before .before .before .if1 .left), le-ltb _ _ fits, le-ltb _ _ enough) (λ i. Wrote (v i) (n i)),
-      c .before .before .put-all .ensures ∙ ap (λ (x : ℕ). front (written x levels) (c .before .before .before .before .before .before .before .before .before .before .before .args .out .now)) v,
-    )
+    let enough : length (written (greatest levels) levels) ≤ room = omega (arith, n, c .before .before .before .before .if3 .left) in
+    record {
+      answered = simp (le-ltb _ _ (c .before .before .before .before .before .before .before .before .if1 .left), le-ltb _ _ fits, le-ltb _ _ enough) (λ i. Wrote (v i) (n i));
+      held = c .before .before .put-all .ensures ∙ ap (λ (x : ℕ). front (written x levels) (c .before .before .before .before .before .before .before .before .before .before .before .args .out .now)) v;
+    }
 
 pub run-write-spec : {M : Type 1} → statement M
 run-write-spec =

@@ -1,0 +1,3 @@
+pub mod Round
+pub mod Quotient
+pub mod Hundredths

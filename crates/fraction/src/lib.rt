@@ -1,0 +1,11 @@
+// A whole number divided once, as a 64-bit float, and how near that is to the exact fraction. The laws hold for any divisor:
+// proofs/Quotient.antt. Stands on nothing; the crate `values` takes a bin's value over with it.
+ghost use mathlib.Core.Path.{_≡_};
+ghost use Rattle.fraction.specs.Quotient.{hundredths};
+
+// A whole number of hundredths: every i32 is taken over exactly, so that the division alone rounds.
+pub fn hundredths_of(z: i32) -> f64
+    ensures { λ r. ⌜ r ≡ hundredths z ⌝ }
+{
+    (z as f64) / 100.0
+}

@@ -1,0 +1,110 @@
+-- Section 5's table: two octets write a value exactly when the number that they write is its sign and magnitude, and a table is right
+-- from a place on when that pair is and the rest is.
+use mathlib.Core.Path.{_≡_, refl, _∙_, ap, sym}
+use mathlib.Core.Bool.{Bool, true, false, _&&_}
+use mathlib.Core.List.{List, [], _∷_}
+use Prim.Native.Nat.{ℕ, suc, _+_, _*_, _/_, _%_, _≤_, _<_}
+use native.Mathlib.Numerals.{add-one}
+use native.Mathlib.Omega.{arith}
+use lib.Dec.{eqb}
+use lib.IntN.{ℤ, pos}
+use lib.ListN.{length, getD, drop, drop-of-length-le}
+use lib.Seq.{drop-cons}
+use borrow.Author.Tests.{eq-eqb, ne-eqb, eqb-true, eqb-false}
+use Rattle.values.specs.Table.{signMagnitude, pairRight, octetsOf, same, tableOctets, tableRight}
+use Rattle.values.specs.declared.Product.{Product}
+
+-- ---- a pair of octets
+-- the number's digits in base 256
+digits : (h l n : ℕ) → l < 256 → eqb (h * 256 + l) n ≡ eqb h (n / 256) && eqb l (n % 256)
+digits h l n k = go (eqb h (n / 256)) refl (eqb l (n % 256)) refl
+  where
+    go : (a : Bool) → eqb h (n / 256) ≡ a → (b : Bool) → eqb l (n % 256) ≡ b → eqb (h * 256 + l) n ≡ a && b
+    go true e true f = let x = eqb-true h (n / 256) e in let y = eqb-true l (n % 256) f in eq-eqb (h * 256 + l) n (omega arith)
+    go true e false f = let x = eqb-true h (n / 256) e in let y = eqb-false l (n % 256) f in ne-eqb (h * 256 + l) n (λ z. y (omega arith))
+    go false e b f = let x = eqb-false h (n / 256) e in ne-eqb (h * 256 + l) n (λ z. x (omega arith))
+
+pub pair-is : (h l : ℕ) (z : ℤ) (n : ℕ) → n ≡ signMagnitude z → l < 256 → eqb (h * 256 + l) n ≡ pairRight h l z
+unfolding pairRight
+pair-is h l z n e k = ap (eqb (h * 256 + l)) e ∙ digits h l (signMagnitude z) k
+
+-- ---- lists of octets
+pub octets-length : (zs : List ℤ) → length (octetsOf zs) ≡ 2 * length zs
+unfolding octetsOf
+octets-length [] = refl
+octets-length (z ∷ zs) = let e = octets-length zs in omega arith
+
+never : false ≡ true → ⊥
+never e = let z : _≡_ {A = ℕ} 0 1 = cc in omega arith
+
+pub same-eq : (xs ys : List ℕ) → same xs ys ≡ true → xs ≡ ys
+unfolding same
+same-eq [] [] e = refl
+same-eq [] (y ∷ ys) e = absurd (never e)
+same-eq (x ∷ xs) [] e = absurd (never e)
+same-eq (x ∷ xs) (y ∷ ys) e = go (eqb x y) refl e (same-eq xs ys)
+  where
+    go : (a : Bool) → eqb x y ≡ a → a && same xs ys ≡ true → (same xs ys ≡ true → xs ≡ ys) → x ∷ xs ≡ y ∷ ys
+    go true h k rest = ap (λ (z : ℕ). z ∷ xs) (eqb-true x y h) ∙ ap (λ zs. y ∷ zs) (rest k)
+    go false h k rest = absurd (never k)
+
+pub same-refl : (xs : List ℕ) → same xs xs ≡ true
+unfolding same
+same-refl [] = refl
+same-refl (x ∷ xs) = ap (λ (b : Bool). b && same xs xs) (eq-eqb x x refl) ∙ same-refl xs
+
+-- octets of another number are not right
+pub unlike-length : (xs : List ℕ) (zs : List ℤ) → (length xs ≡ 2 * length zs → ⊥) → same xs (octetsOf zs) ≡ false
+unlike-length xs zs n = go (same xs (octetsOf zs)) refl
+  where
+    go : (b : Bool) → same xs (octetsOf zs) ≡ b → b ≡ false
+    go true e = absurd (n (ap length (same-eq xs (octetsOf zs) e) ∙ octets-length zs))
+    go false e = refl
+
+-- a pair and the rest
+pair-rest : (xs : List ℕ) (zs : List ℤ) (h l : ℕ) (z : ℤ) → same (h ∷ l ∷ xs) (octetsOf (z ∷ zs)) ≡ pairRight h l z && same xs (octetsOf zs)
+unfolding same octetsOf pairRight
+pair-rest xs zs h l z = assoc (eqb h (signMagnitude z / 256)) (eqb l (signMagnitude z % 256)) (same xs (octetsOf zs))
+  where
+    assoc : (a b c : Bool) → a && (b && c) ≡ (a && b) && c
+    assoc true b c = refl
+    assoc false b c = refl
+
+next-pair : (xs : List ℕ) (zs : List ℤ) (i : ℕ) → i < length zs → length xs ≡ 2 * length zs
+    → same (drop (2 * i) xs) (octetsOf (drop i zs))
+    ≡ pairRight (getD xs (2 * i) 0) (getD xs (2 * i + 1) 0) (getD zs i (pos 0)) && same (drop (2 * (i + 1)) xs) (octetsOf (drop (i + 1) zs))
+next-pair xs zs i h e =
+    ap (λ ys. same ys (octetsOf (drop i zs))) (drop-cons xs (2 * i) 0 (omega arith) ∙ ap (λ ys. getD xs (2 * i) 0 ∷ ys) (drop-cons xs (suc (2 * i)) 0 (omega arith)))
+    ∙ ap (λ ws. same (getD xs (2 * i) 0 ∷ getD xs (suc (2 * i)) 0 ∷ drop (suc (suc (2 * i))) xs) (octetsOf ws)) (drop-cons zs i (pos 0) h)
+    ∙ pair-rest (drop (suc (suc (2 * i))) xs) (drop (suc i) zs) (getD xs (2 * i) 0) (getD xs (suc (2 * i)) 0) (getD zs i (pos 0))
+    ∙ ap (λ (k : ℕ). pairRight (getD xs (2 * i) 0) (getD xs k 0) (getD zs i (pos 0)) && same (drop (suc (suc (2 * i))) xs) (octetsOf (drop (suc i) zs))) (sym (add-one (2 * i)))
+    ∙ ap (λ (k : ℕ). pairRight (getD xs (2 * i) 0) (getD xs (2 * i + 1) 0) (getD zs i (pos 0)) && same (drop k xs) (octetsOf (drop (suc i) zs))) (twice i)
+    ∙ ap (λ (k : ℕ). pairRight (getD xs (2 * i) 0) (getD xs (2 * i + 1) 0) (getD zs i (pos 0)) && same (drop (2 * (i + 1)) xs) (octetsOf (drop k zs))) (sym (add-one i))
+  where
+    twice : (i : ℕ) → suc (suc (2 * i)) ≡ 2 * (i + 1)
+    twice i = omega arith
+
+-- a wrong pair makes the whole wrong, and a right one leaves it to the rest
+pub wrong-pair : (xs : List ℕ) (zs : List ℤ) (i : ℕ) → i < length zs → length xs ≡ 2 * length zs
+    → pairRight (getD xs (2 * i) 0) (getD xs (2 * i + 1) 0) (getD zs i (pos 0)) ≡ false → same (drop (2 * i) xs) (octetsOf (drop i zs)) ≡ false
+wrong-pair xs zs i h e k = next-pair xs zs i h e ∙ ap (λ (b : Bool). b && same (drop (2 * (i + 1)) xs) (octetsOf (drop (i + 1) zs))) k
+
+pub right-pair : (xs : List ℕ) (zs : List ℤ) (i : ℕ) → i < length zs → length xs ≡ 2 * length zs
+    → pairRight (getD xs (2 * i) 0) (getD xs (2 * i + 1) 0) (getD zs i (pos 0)) ≡ true
+    → same (drop (2 * i) xs) (octetsOf (drop i zs)) ≡ same (drop (2 * (i + 1)) xs) (octetsOf (drop (i + 1) zs))
+right-pair xs zs i h e k = next-pair xs zs i h e ∙ ap (λ (b : Bool). b && same (drop (2 * (i + 1)) xs) (octetsOf (drop (i + 1) zs))) k
+
+pub no-pair : (xs : List ℕ) (zs : List ℤ) (i : ℕ) → length zs ≤ i → length xs ≡ 2 * length zs → same (drop (2 * i) xs) (octetsOf (drop i zs)) ≡ true
+unfolding same octetsOf
+no-pair xs zs i h e =
+    ap (λ ys. same ys (octetsOf (drop i zs))) (drop-of-length-le xs {i = 2 * i} (omega arith)) ∙ ap (λ ws. same [] (octetsOf ws)) (drop-of-length-le zs h)
+
+-- ---- what the test means
+-- THE MEANING: the table is right exactly when the octets are the table's, octet for octet
+pub table-right : (octets : List ℕ) (p : Product) → tableRight octets p ≡ true → octets ≡ tableOctets p
+unfolding tableRight
+table-right octets p e = same-eq octets (tableOctets p) e
+
+pub right-table : (octets : List ℕ) (p : Product) → octets ≡ tableOctets p → tableRight octets p ≡ true
+unfolding tableRight
+right-table octets p e = ap (λ xs. same xs (tableOctets p)) e ∙ same-refl (tableOctets p)

@@ -1,0 +1,79 @@
+-- Every level passed has its kind at its place.
+use Rattle.values.specs.declared.Reading.{Reading}
+use Rattle.values.proofs.Filled.{filled-more}
+use mathlib.Core.Path.{_≡_, refl, _∙_, ap}
+use Prim.Native.Nat.{ℕ, _+_, _-_, _≤_, _<_}
+use native.Mathlib.Nat.{not-suc-le-zero}
+use native.Mathlib.Omega.{arith}
+use borrow.Author.Needs.{needs}
+use lib.ListN.{length, getD, length-set}
+use mir.Syntax.{w32}
+use mir.Val.{toZ, ofZ}
+use mir.Facts.{toZ-ofZ}
+use Rattle.values.specs.Reading.{readingOf, kindOf}
+use Rattle.values.proofs.Listed.{count-le, table-length}
+use Rattle.values.proofs.kinds_in.Statement.{statement}
+use Rattle.values.proofs.kinds_in.Tie as tie
+
+abbrev Inv-loop : tie.InvT-loop
+Inv-loop product table t m kinds₀ level₀ kinds level = (level ≤ m + 1) × (length kinds ≡ 256) × ((k : ℕ) → k < level → getD kinds k 0 ≡ kindOf (readingOf product k) (toZ w32 t))
+
+abbrev μ-loop : tie.MeasureT-loop
+μ-loop product table t m kinds₀ level₀ kinds level = m + 1 - level
+
+loop-holds : tie.Need-loop-holds Inv-loop μ-loop
+loop-holds c = (omega arith, refl, λ k h. absurd (not-suc-le-zero h))
+
+cast-reading-in : tie.Need-cast-reading-in Inv-loop μ-loop
+cast-reading-in c = let s = c .before .before in
+    let e = ap length (s .pre) ∙ table-length (s .args .product) in omega (arith, count-le (s .args .product))
+
+reading-in-requires : tie.Need-reading-in-requires Inv-loop μ-loop
+reading-in-requires c κs = let s = c .before .before in let e = ap length (s .pre) ∙ table-length (s .args .product) in (s .pre, omega arith)
+
+kind-of-requires : tie.Need-kind-of-requires Inv-loop μ-loop
+kind-of-requires c κs = search needs
+
+mul-kinds : tie.Need-mul-kinds Inv-loop μ-loop
+mul-kinds c = let s = c .before .before .before .before in let e = ap length (s .pre) ∙ table-length (s .args .product) in omega (arith, count-le (s .args .product))
+
+array-write-kinds : tie.Need-array-write-kinds Inv-loop μ-loop
+array-write-kinds c = let s = c .before .before .before .before in let e = ap length (s .pre) ∙ table-length (s .args .product) in omega (arith, count-le (s .args .product))
+
+add-level : tie.Need-add-level Inv-loop μ-loop
+add-level c = let s = c .before .before .before .before in let e = ap length (s .pre) ∙ table-length (s .args .product) in omega (arith, count-le (s .args .product))
+
+loop-less : tie.Need-loop-less Inv-loop μ-loop
+loop-less c = omega arith
+
+loop-again : tie.Need-loop-again Inv-loop μ-loop
+loop-again c = let s = c .before .before .before .before in
+    let l = c .before .before .before .loop in
+    let e = ap length (s .pre) ∙ table-length (s .args .product) in (
+      omega arith,
+      simp length-set (l .inv .1),
+      filled-more (l .kinds) (λ k. kindOf (readingOf (s .args .product) k) (toZ w32 (ofZ w32 (s .args .t)))) (l .level) _ (omega (arith, count-le (s .args .product)))
+          (l .inv .2) (c .kind-of .ensures ∙ ap (λ (r : Reading). kindOf r (toZ w32 (ofZ w32 (s .args .t)))) (c .before .reading-in .ensures)),
+    )
+
+returns : tie.Need-returns Inv-loop μ-loop
+returns c = let s = c .before .before in
+    let e = ap length (s .pre) ∙ table-length (s .args .product) in
+    λ l h. c .before .loop .inv .2 l (omega arith) ∙ ap (kindOf (readingOf (s .args .product) l)) (toZ-ofZ (s .fits .t))
+
+pub kinds-in-spec : {M : Type 1} → statement M
+kinds-in-spec =
+    tie.close
+    (tie.spec
+    Inv-loop
+    μ-loop
+    loop-holds
+    cast-reading-in
+    reading-in-requires
+    kind-of-requires
+    mul-kinds
+    array-write-kinds
+    add-level
+    loop-less
+    loop-again
+    returns)

@@ -1,0 +1,34 @@
+-- One law for a value below zero, one from zero on.
+use mathlib.Core.Path.{_∙_, ap}
+use Prim.Native.Nat.{_+_}
+use native.Mathlib.Omega.{arith}
+use lib.IntN.{ℤ, natAbs}
+use Rattle.values.proofs.Signed.{wide-fits}
+use Rattle.values.proofs.Magnitude.{below, above}
+use Rattle.values.proofs.sign_magnitude.Statement.{statement}
+use Rattle.values.proofs.sign_magnitude.Tie as tie
+
+cast-w : tie.Need-cast-w
+cast-w c = wide-fits (c .args .value) (c .fits .value)
+
+sub-result : tie.Need-sub-result
+sub-result c = below (c .before .args .value) (c .before .fits .value) (c .if1 .taken) .0
+
+cast-result : tie.Need-cast-result
+cast-result c = let b = below (c .before .args .value) (c .before .fits .value) (c .if1 .taken) in rw (b .1) (tt, omega (arith, b .2))
+
+add-result : tie.Need-add-result
+add-result c = let b = below (c .before .args .value) (c .before .fits .value) (c .if1 .taken) in rw (b .1) (omega (arith, b .2))
+
+returns : tie.Need-returns
+returns c = let b = below (c .before .args .value) (c .before .fits .value) (c .if1 .taken) in ap (λ (z : ℤ). 32768 + natAbs z) (b .1) ∙ b .3
+
+cast-result-2 : tie.Need-cast-result-2
+cast-result-2 c = let b = above (c .before .args .value) (c .before .fits .value) (c .if1 .left) in (b .0, b .1)
+
+returns-2 : tie.Need-returns-2
+returns-2 c = above (c .before .args .value) (c .before .fits .value) (c .if1 .left) .2
+
+pub sign-magnitude-spec : {M : Type 1} → statement M
+sign-magnitude-spec =
+    tie.close (tie.spec cast-w sub-result cast-result add-result returns cast-result-2 returns-2)

@@ -1,0 +1,45 @@
+-- The constant lent for each product is that product's table.
+use mathlib.Core.Path.{_∙_, sym, ap}
+use Rattle.values.specs.Table.{tableRight}
+use borrow.Author.Needs.{needs}
+use Rattle.values.proofs.table_right.Statement.{statement}
+use Rattle.values.proofs.table_right.Tie as tie
+
+enum-told : tie.Need-enum-told
+enum-told c = search needs
+
+slice-aggregate-right-in : tie.Need-slice-aggregate-right-in
+slice-aggregate-right-in c = search needs
+
+right-in-requires : tie.Need-right-in-requires
+right-in-requires c κs = search needs
+
+enum-told-2 : tie.Need-enum-told-2
+enum-told-2 c = search needs
+
+slice-aggregate-right-in-2 : tie.Need-slice-aggregate-right-in-2
+slice-aggregate-right-in-2 c = search needs
+
+right-in-requires-2 : tie.Need-right-in-requires-2
+right-in-requires-2 c κs = search needs
+
+returns : tie.Need-returns
+unfolding tableRight
+returns c = let s = c .before .before .before .before .before in c .right-in .ensures ∙ sym (ap (tableRight (s .args .octets .now)) (c .before .before .enum-told .given .1))
+
+returns-2 : tie.Need-returns-2
+unfolding tableRight
+returns-2 c = let s = c .before .before .before .before .before in c .right-in2 .ensures ∙ sym (ap (tableRight (s .args .octets .now)) (c .before .before .enum-told2 .given .1))
+
+pub table-right-spec : {M : Type 1} → statement M
+table-right-spec =
+    tie.close
+    (tie.spec
+    enum-told
+    slice-aggregate-right-in
+    right-in-requires
+    enum-told-2
+    slice-aggregate-right-in-2
+    right-in-requires-2
+    returns
+    returns-2)

@@ -1,0 +1,4 @@
+pub mod Published
+pub mod Reading
+pub mod Ray
+pub mod Table

@@ -1,0 +1,37 @@
+-- What a level is, in one place: a level's mark, the value it leaves in a lent buffer and its kind go by cases on it.
+use Prim.Native.Nat.{ℕ, _≤_}
+use mathlib.Core.Path.{_≡_}
+use mathlib.Core.Bool.{cond}
+use mathlib.Core.List.{List}
+use lib.Dec.{eqb}
+use lib.ListN.{getD}
+use lib.IntN.{ℤ}
+use lib.Signed.{ltZ}
+use Rattle.values.specs.Published.{published, levelCount}
+use Rattle.values.specs.declared.Product.{Product}
+use Rattle.values.specs.declared.Reading.{Reading}
+use Rattle.values.specs.declared.Reading.the-variants.{Missing, Number}
+
+-- level 0: missing, no value; any other: its published value
+unfoldable pub readingOf : Product → ℕ → Reading
+unfolding published
+readingOf p l = cond (eqb l 0) Missing (Number (published p l))
+
+-- the mark: 0 missing, 1 measured (document 01, "Calls", Ray values)
+unfoldable pub markOf : Reading → ℕ
+markOf Missing = 0
+markOf (Number z) = 1
+
+-- what a place that held x holds afterwards: a missing place keeps what it held
+unfoldable pub heldOf : Reading → ℤ → ℤ
+heldOf Missing x = x
+heldOf (Number z) x = z
+
+-- the kind: 0 missing, 1 value below T, 2 value at or above T (document 01, "Calls", Stretches)
+unfoldable pub kindOf : Reading → ℤ → ℕ
+kindOf Missing t = 0
+kindOf (Number z) t = cond (ltZ z t) 1 2
+
+-- ks has the kind of each level at its place
+abbrev pub KindsBy : Product → ℤ → List ℕ → Type 0
+KindsBy p t ks = (l : ℕ) → l ≤ levelCount p → getD ks l 0 ≡ kindOf (readingOf p l) t

@@ -1,0 +1,221 @@
+// The published values in hundredths, as constant tables; what a level is (missing, or a number), its mark, value and kind; and
+// section 5's table, octet for octet. Stands on nothing but numbers; `layout` judges section 5 with it, `polar` and `stretches`
+// take a bin's reading and kind from it.
+//
+// A constant table that a loop indexes is laid out anew at each use. So whatever loops over levels is lent the table as a slice,
+// and one function on the product above it lends it.
+ghost use mathlib.Core.Path.{_≡_};
+ghost use Prim.Native.Nat.{ℕ, _≤_, _<_};
+ghost use lib.ListN.{length, take};
+ghost use Rattle.values.specs.Published.{levelCount, published, tableOf};
+ghost use Rattle.values.specs.Reading.{readingOf, markOf, heldOf, kindOf, KindsBy};
+ghost use Rattle.values.specs.Ray.{marksOf, valuesOf, Within};
+ghost use Rattle.values.specs.Table.{signMagnitude, pairRight, octetsOf, same, tableRight};
+
+mod tables;
+
+// Parameter 1 and parameter 2.
+pub enum Product {
+    Reflectivity,
+    Velocity,
+}
+
+// What a level tells: nothing, or a number of hundredths.
+pub enum Reading {
+    Missing,
+    Number(i32),
+}
+
+// M, the number of levels above 0.
+pub fn level_count(product: Product) -> usize
+    ensures { λ r. ⌜ r ≡ levelCount product ⌝ }
+{
+    match product {
+        Product::Reflectivity => 252,
+        Product::Velocity => 251,
+    }
+}
+
+// The value of a level above 0, from the product's table.
+fn value_in(product: Product, table: &[i16], level: u8) -> i32
+    requires { ⌜ now table ≡ tableOf product ⌝ }
+    requires { ⌜ (1 ≤ level) × (level ≤ levelCount product) ⌝ }
+    ensures { λ r. ⌜ r ≡ published product level ⌝ }
+{
+    let n = level as usize;
+    table[n - 1] as i32
+}
+
+// The value of a level above 0.
+pub fn value_of(product: Product, level: u8) -> i32
+    requires { ⌜ (1 ≤ level) × (level ≤ levelCount product) ⌝ }
+    ensures { λ r. ⌜ r ≡ published product level ⌝ }
+{
+    match product {
+        Product::Reflectivity => value_in(product, &tables::REFLECTIVITY, level),
+        Product::Velocity => value_in(product, &tables::VELOCITY, level),
+    }
+}
+
+// What a level tells, from the product's table.
+pub fn reading_in(product: Product, table: &[i16], level: u8) -> Reading
+    requires { ⌜ now table ≡ tableOf product ⌝ }
+    requires { ⌜ level ≤ levelCount product ⌝ }
+    ensures { λ r. ⌜ r ≡ readingOf product level ⌝ }
+{
+    if level == 0 {
+        return Reading::Missing;
+    }
+    Reading::Number(value_in(product, table, level))
+}
+
+// What a level tells.
+pub fn reading_of(product: Product, level: u8) -> Reading
+    requires { ⌜ level ≤ levelCount product ⌝ }
+    ensures { λ r. ⌜ r ≡ readingOf product level ⌝ }
+{
+    match product {
+        Product::Reflectivity => reading_in(product, &tables::REFLECTIVITY, level),
+        Product::Velocity => reading_in(product, &tables::VELOCITY, level),
+    }
+}
+
+// 0 missing, 1 measured.
+pub fn mark_of(reading: Reading) -> u8
+    ensures { λ m. ⌜ m ≡ markOf reading ⌝ }
+{
+    match reading {
+        Reading::Missing => 0,
+        Reading::Number(_) => 1,
+    }
+}
+
+// What a place that held x holds afterwards.
+pub fn held_of(reading: Reading, x: i32) -> i32
+    ensures { λ y. ⌜ y ≡ heldOf reading x ⌝ }
+{
+    match reading {
+        Reading::Missing => x,
+        Reading::Number(z) => z,
+    }
+}
+
+// A level's kind against a threshold: no number, a value below it, one at or above it.
+const MISSING: u32 = 0;
+
+const BELOW: u32 = 1;
+
+const REACHED: u32 = 2;
+
+pub fn kind_of(reading: Reading, t: i32) -> u32
+    ensures { λ k. ⌜ k ≡ kindOf reading t ⌝ }
+{
+    match reading {
+        Reading::Missing => MISSING,
+        Reading::Number(z) => if z < t { BELOW } else { REACHED },
+    }
+}
+
+// The kind of each level, from the product's table.
+fn kinds_in(product: Product, table: &[i16], t: i32) -> [u32; 256]
+    requires { ⌜ now table ≡ tableOf product ⌝ }
+    ensures { λ r. ⌜ KindsBy product t r ⌝ }
+{
+    let m = table.len();
+    let mut kinds = [0u32; 256];
+    let mut level: usize = 0;
+    while level <= m {
+        let reading = reading_in(product, table, level as u8);
+        kinds[level] = kind_of(reading, t);
+        level += 1;
+    }
+    kinds
+}
+
+// The kind of each level, for whatever has many levels to tell the kind of.
+pub fn kinds_by(product: Product, t: i32) -> [u32; 256]
+    ensures { λ r. ⌜ KindsBy product t r ⌝ }
+{
+    match product {
+        Product::Reflectivity => kinds_in(product, &tables::REFLECTIVITY, t),
+        Product::Velocity => kinds_in(product, &tables::VELOCITY, t),
+    }
+}
+
+// A ray's levels, the first n octets of `marks`, become its marks in place, and its numbers stand in `values`.
+fn convert_in(product: Product, table: &[i16], n: usize, marks: &mut [u8], values: &mut [i32])
+    requires { ⌜ now table ≡ tableOf product ⌝ }
+    requires { ⌜ (n ≤ length (now marks)) × (n ≤ length (now values)) × Within product (take n (now marks)) ⌝ }
+    ensures { λ _. ⌜ (now (marks .exit) ≡ marksOf product (take n (now (marks .entry))) (now (marks .entry))) × (now (values .exit) ≡ valuesOf product (take n (now (marks .entry))) (now (values .entry))) ⌝ }
+{
+    let mut i = 0;
+    while i < n {
+        let reading = reading_in(product, table, marks[i]);
+        marks[i] = mark_of(reading);
+        let x = values[i];
+        values[i] = held_of(reading, x);
+        i += 1;
+    }
+}
+
+// The first n octets of `marks` are a ray's levels: they become its marks, and `values` gets its numbers.
+pub fn convert(product: Product, n: usize, marks: &mut [u8], values: &mut [i32])
+    requires { ⌜ (n ≤ length (now marks)) × (n ≤ length (now values)) × Within product (take n (now marks)) ⌝ }
+    ensures { λ _. ⌜ (now (marks .exit) ≡ marksOf product (take n (now (marks .entry))) (now (marks .entry))) × (now (values .exit) ≡ valuesOf product (take n (now (marks .entry))) (now (values .entry))) ⌝ }
+{
+    match product {
+        Product::Reflectivity => convert_in(product, &tables::REFLECTIVITY, n, marks, values),
+        Product::Velocity => convert_in(product, &tables::VELOCITY, n, marks, values),
+    }
+}
+
+// A value in 16 bits, sign and magnitude. (-32768 has no such form: it gives 65536, which no two octets write.)
+fn sign_magnitude(value: i16) -> u32
+    ensures { λ r. ⌜ r ≡ signMagnitude value ⌝ }
+{
+    let w = value as i32;
+    if w < 0 {
+        return 32768 + ((0 - w) as u32);
+    }
+    w as u32
+}
+
+// Whether two octets write a value.
+fn pair_right(high: u8, low: u8, value: i16) -> bool
+    ensures { λ r. ⌜ r ≡ pairRight high low value ⌝ }
+{
+    let h = high as u32;
+    let l = low as u32;
+    h * 256 + l == sign_magnitude(value)
+}
+
+// Whether octets are a table's, octet for octet.
+fn right_in(octets: &[u8], table: &[i16]) -> bool
+    ensures { λ r. ⌜ r ≡ same (now (octets .entry)) (octetsOf (now (table .entry))) ⌝ }
+{
+    let m = table.len();
+    if octets.len() / 2 != m {
+        return false;
+    }
+    if octets.len() % 2 != 0 {
+        return false;
+    }
+    let mut i = 0;
+    while i < m {
+        if !pair_right(octets[2 * i], octets[2 * i + 1], table[i]) {
+            return false;
+        }
+        i += 1;
+    }
+    true
+}
+
+// Whether octets are the product's published table, octet for octet.
+pub fn table_right(octets: &[u8], product: Product) -> bool
+    ensures { λ r. ⌜ r ≡ tableRight (now (octets .entry)) product ⌝ }
+{
+    match product {
+        Product::Reflectivity => right_in(octets, &tables::REFLECTIVITY),
+        Product::Velocity => right_in(octets, &tables::VELOCITY),
+    }
+}
