@@ -4,7 +4,6 @@ use mathlib.Core.Path.{_≡_, refl, sym, ap, _∙_}
 use mathlib.Core.Bool.{true}
 use mathlib.Core.List.{List, [], _∷_, _++_, append-nil, append-assoc}
 use native.Mathlib.Nat.{div-lt-self, mod-add-div', add-mul, mul-assoc, mul-comm, mul-one, zero-mul}
-use native.Mathlib.Decide.{ℕ-discrete}
 use native.Mathlib.Omega.{arith}
 use lib.ListN.{length, replicate, replicate-append-replicate}
 use lib.Dec.{leb}
@@ -13,7 +12,7 @@ use Rattle.runs.specs.Run.{base, digitSum, levels, opens, gives}
 use Rattle.packing.specs.Write.{greatest, digitsUpTo, digitsOf, code, onFrom, written}
 use Rattle.runs.proofs.Bins.{either, levels-nil, levels-open, levels-digit}
 use Rattle.runs.proofs.Steps.{dsum, dsum-nil, dsum-open, dsum-digit, digitSum-is}
-use Rattle.packing.proofs.Digits.{octetsOf, code-is, up-zero, up-more, onFrom-nil, onFrom-same, onFrom-other, greatest-cons}
+use Rattle.packing.proofs.Digits.{alike, octetsOf, code-is, up-zero, up-more, onFrom-nil, onFrom-same, onFrom-other, greatest-cons}
 
 pub replicate-more : (m x : ℕ) (ys : List ℕ) → replicate m x ++ (x ∷ ys) ≡ replicate (m + 1) x ++ ys
 replicate-more m x ys = sym (append-assoc (replicate m x) (x ∷ []) ys) ∙ ap (λ (l : List ℕ). l ++ ys) (replicate-append-replicate m 1 x)
@@ -63,14 +62,6 @@ module _ (v : ℕ) (low : v ≤ 252) (t : List ℕ) (stop : opens v t ≡ true) 
       ap (λ (l : List ℕ). levels v (l ++ t)) (code-is v x k)
       ∙ levels-open v x (ds ++ t) h
       ∙ (λ i. replicate (sum i) x ++ digits-levels (digitsOf (base v) k) i)
-
--- one of two cases
-pub alike {ℓ} : {P : Type ℓ} (a b : ℕ) → (a ≡ b → P) → ((a ≡ b → ⊥) → P) → P
-alike {P} a b f g = go (ℕ-discrete a b)
-  where
-    go : Dec (a ≡ b) → P
-    go (yes e) = f e
-    go (no e) = g e
 
 -- what is written on from a run of x opens with x
 code-opens : (v x k : ℕ) (t : List ℕ) → opens v (code v x k ++ t) ≡ leb x v
