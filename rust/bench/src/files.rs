@@ -1,5 +1,5 @@
 //! The file calls on small, real-sized and largest files: the last cut, its last ray, its last bin.
-use crate::timing::{heading, row};
+use crate::timing::Table;
 use reference::layout::verdict;
 use reference::maker::{document_sample, CutPlan, Plan};
 use reference::numbers::Numbers;
@@ -35,34 +35,38 @@ fn calls(name: &str, file: &[u8]) {
     let last = accepted.cuts.len() - 1;
     let grid = accepted.cuts[last].grid;
     let (bins, ray, bin) = (grid.bins, grid.rays - 1, grid.bins - 1);
-    heading(&format!("{name} ({} octets)", file.len()));
-    row("open", || polar_sys::open(black_box(file), &mut [0; 10]), || plain::file::open(black_box(file)).is_ok());
-    row("cut", || polar_sys::cut(black_box(file), last, &mut [0; 11]), || plain::file::cut(black_box(file), last).is_ok());
+    let table = Table::new(name, file.len());
+    table.row("open", || polar_sys::open(black_box(file), &mut [0; 10]), || plain::file::open(black_box(file)).is_ok());
+    table.row("cut", || polar_sys::cut(black_box(file), last, &mut [0; 11]), || plain::file::cut(black_box(file), last).is_ok());
     let (mut ours, mut plain) = (vec![0; bins], vec![0; bins]);
-    row(
+    table.row(
         "ray levels",
         || assert_eq!(polar_sys::ray_levels(black_box(file), last, ray, &mut ours, &mut [0]), 0),
         || assert_eq!(plain::rays::ray_levels(black_box(file), last, ray, &mut plain), Ok(())),
     );
     assert_eq!(ours, plain);
     let (mut our_values, mut plain_values) = (vec![0; bins], vec![0; bins]);
-    row(
+    table.row(
         "ray values",
         || assert_eq!(polar_sys::ray_values(black_box(file), last, ray, &mut ours, &mut our_values, &mut [0]), 0),
         || assert_eq!(plain::rays::ray_values(black_box(file), last, ray, &mut plain, &mut plain_values), Ok(())),
     );
     assert_eq!((ours, our_values), (plain, plain_values));
-    row("bin value", || polar_sys::bin_value(black_box(file), last, ray, bin, &mut 0.0, &mut [0; 2]), || plain::rays::bin_value(black_box(file), last, ray, bin).is_ok());
+    table.row(
+        "bin value",
+        || polar_sys::bin_value(black_box(file), last, ray, bin, &mut 0.0, &mut [0; 2]),
+        || plain::rays::bin_value(black_box(file), last, ray, bin).is_ok(),
+    );
     #[cfg(feature = "stretches")]
-    list(file, last, bins * grid.rays);
+    list(&table, file, last, bins * grid.rays);
 }
 
 /// The whole list of a cut in one portion.
 #[cfg(feature = "stretches")]
-fn list(file: &[u8], cut: usize, most: usize) {
+fn list(table: &Table, file: &[u8], cut: usize, most: usize) {
     let (mut ours, mut plain) = (vec![0; 4 * most], vec![0; 4 * most]);
     let mut answer = [0; 4];
-    row(
+    table.row(
         "stretches",
         || assert_eq!(polar_sys::house_stretches(black_box(file), cut, (0, 0), &mut ours, &mut answer), 0),
         || assert!(plain::stretches::stretches(black_box(file), cut, plain::stretches::HOUSE_THRESHOLD, (0, 0), &mut plain).is_ok()),

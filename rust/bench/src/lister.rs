@@ -1,5 +1,5 @@
 //! The program `lister` against a plain Rust program, each a process of its own, on files up to its limit.
-use crate::timing::{heading, row};
+use crate::timing::Table;
 use reference::maker::{document_sample, CutPlan, Plan};
 use reference::numbers::Numbers;
 use reference::published::Product;
@@ -24,11 +24,18 @@ pub fn rows() {
     let noise = CutPlan::of_levels(600, 105, &n.levels(63_000, 0, 251, 1));
     let cuts = (0..60).map(|_| CutPlan::of_levels(200, 4, &n.levels(800, 0, 200, 4))).collect();
     let input = std::env::temp_dir().join(format!("bench-lister-{}", std::process::id()));
-    heading("the lister, with the time to start a program");
-    for (name, file) in [("small", document_sample().file()), ("a cut of noise", Plan::new(Product::Reflectivity, vec![noise]).file()), ("60 cuts", Plan::new(Product::Reflectivity, cuts).file())] {
+    for (name, file) in [
+        ("small", document_sample().file()),
+        ("a cut of noise", Plan::new(Product::Reflectivity, vec![noise]).file()),
+        ("60 cuts", Plan::new(Product::Reflectivity, cuts).file()),
+    ] {
         fs::write(&input, &file).expect("a folder for files of a while");
         assert!(output(Command::new(&tool).arg("lister"), &input) == output(&mut Command::new(&plain), &input));
-        row(&format!("{name} ({} octets)", file.len()), || output(Command::new(&tool).arg("lister"), &input), || output(&mut Command::new(&plain), &input));
+        Table::new(&format!("lister, {name}"), file.len()).row(
+            "with the time to start a program",
+            || output(Command::new(&tool).arg("lister"), &input),
+            || output(&mut Command::new(&plain), &input),
+        );
     }
     fs::remove_file(&input).expect("the input");
 }

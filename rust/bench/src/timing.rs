@@ -36,13 +36,21 @@ fn least<T, U>(mut ours: impl FnMut() -> T, mut plain: impl FnMut() -> U) -> (f6
     (of_ours, of_plain)
 }
 
-/// A heading over rows.
-pub fn heading(text: &str) {
-    println!("\n{text:<46} {:>12} {:>12} {:>7}", "ours, us", "plain, us", "ratio");
+/// A table's heading: what its rows are about, and of how many octets.
+pub struct Table {
+    octets: usize,
 }
 
-/// One row of the table.
-pub fn row<T, U>(what: &str, ours: impl FnMut() -> T, plain: impl FnMut() -> U) {
-    let (ours, plain) = least(ours, plain);
-    println!("{what:<46} {:>12.2} {:>12.2} {:>7.2}", ours * 1e6, plain * 1e6, ours / plain);
+impl Table {
+    pub fn new(about: &str, octets: usize) -> Table {
+        let about = format!("{about} ({octets} octets)");
+        println!("\n{about:<58} {:>12} {:>12} {:>7} {:>12}", "ours, us", "plain, us", "ratio", "ns an octet");
+        Table { octets }
+    }
+
+    /// One row: the least times, their ratio, and ours for each octet.
+    pub fn row<T, U>(&self, what: &str, ours: impl FnMut() -> T, plain: impl FnMut() -> U) {
+        let (ours, plain) = least(ours, plain);
+        println!("{what:<58} {:>12.2} {:>12.2} {:>7.2} {:>12.3}", ours * 1e6, plain * 1e6, ours / plain, ours * 1e9 / self.octets as f64);
+    }
 }

@@ -67,7 +67,9 @@ fn without_comments(text: &str) -> String {
 /// Every prototype of the header.
 fn in_header() -> Calls {
     let text = without_comments(&source("include/polar.h"));
-    let prototypes = text.split(';').filter_map(|part| part.rsplit_once('(').map(|(head, arguments)| (head, arguments.trim_end().trim_end_matches(')'))));
+    let prototypes = text
+        .split(';')
+        .filter_map(|part| part.rsplit_once('(').map(|(head, arguments)| (head, arguments.trim_end().trim_end_matches(')'))));
     prototypes
         .map(|(head, arguments)| {
             let mut words = head.split_whitespace().rev();

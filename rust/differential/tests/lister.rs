@@ -12,7 +12,12 @@ use std::thread;
 
 fn listed(input: &[u8]) -> String {
     let top = Path::new(env!("CARGO_MANIFEST_DIR")).join("../..");
-    let mut program = Command::new(top.join("tools/run-program")).arg("lister").stdin(Stdio::piped()).stdout(Stdio::piped()).spawn().expect("tools/run-program");
+    let mut program = Command::new(top.join("tools/run-program"))
+        .arg("lister")
+        .stdin(Stdio::piped())
+        .stdout(Stdio::piped())
+        .spawn()
+        .expect("tools/run-program");
     let mut stdin = program.stdin.take().unwrap();
     thread::scope(|scope| {
         // a lister that has read enough may leave the rest: then the pipe is broken, and that is no fault
@@ -26,7 +31,15 @@ fn listed(input: &[u8]) -> String {
 #[track_caller]
 fn lists(input: &[u8]) {
     let (found, expected) = (listed(input), text(input));
-    assert!(found == expected, "{} octets: found {} octets beginning {:.200?}, expected {} octets beginning {:.200?}", input.len(), found.len(), found, expected.len(), expected);
+    assert!(
+        found == expected,
+        "{} octets: found {} octets beginning {:.200?}, expected {} octets beginning {:.200?}",
+        input.len(),
+        found.len(),
+        found,
+        expected.len(),
+        expected
+    );
 }
 
 #[test]
@@ -37,7 +50,7 @@ fn the_documents_sample() {
 #[test]
 fn made_and_spoiled_files() {
     let mut n = Numbers::new(61);
-    for _ in 0..60 {
+    for _ in 0..100 {
         let plan = random_plan(4, 30, 10, &mut n);
         let mut file = plan.file();
         lists(&file);

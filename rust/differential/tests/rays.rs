@@ -35,7 +35,9 @@ fn all_rays_and_bins(file: &[u8]) {
 
 /// Arguments past every edge, with room that is too short as well: 10 comes first.
 fn outside(compared: &Compared, cuts: usize) {
-    for (cut, ray, bin) in [(cuts, 0, 0), (usize::MAX, 0, 0), (0, usize::MAX, 0), (0, 0, usize::MAX), (0, 1 << 32, 0), (0, 0, 1 << 32), (1 << 32, 0, 0)] {
+    for (cut, ray, bin) in
+        [(cuts, 0, 0), (usize::MAX, 0, 0), (0, usize::MAX, 0), (0, 0, usize::MAX), (0, 1 << 32, 0), (0, 0, 1 << 32), (1 << 32, 0, 0)]
+    {
         compared.bin_value(cut, ray, bin);
         compared.ray_levels(cut, ray, 0);
         compared.ray_values(cut, ray, 0, 9);

@@ -19,7 +19,9 @@ fn reads(octets: &[u8], v: u8, n: usize) -> Result<(), u32> {
 
 #[test]
 fn checked_examples_of_reading() {
-    for (v, octets, n) in [(10, &[3, 11][..], 1), (10, &[3, 255], 245), (10, &[3, 11, 12], 246), (252, &[7, 255, 255], 9), (252, &[7, 253, 253, 254], 10)] {
+    for (v, octets, n) in
+        [(10, &[3, 11][..], 1), (10, &[3, 255], 245), (10, &[3, 11, 12], 246), (252, &[7, 255, 255], 9), (252, &[7, 253, 253, 254], 10)]
+    {
         assert_eq!(reads(octets, v, n), Ok(()));
         assert_eq!(reads(octets, v, n - 1), Err(8));
         assert_eq!(reads(octets, v, n + 1), Err(8));
@@ -50,7 +52,14 @@ fn checked_examples_of_writing() {
 /// The order 12, 10, 11, 8: each with all that come after it.
 #[test]
 fn the_order_of_refusals() {
-    for (v, n, room, number) in [(254, MOST_LEVELS + 1, 0, 12), (253, MOST_LEVELS + 1, 0, 10), (253, MOST_LEVELS, 0, 11), (253, 2, 2, 8), (255, usize::MAX, 5, 12), (10, usize::MAX, 5, 10)] {
+    for (v, n, room, number) in [
+        (254, MOST_LEVELS + 1, 0, 12),
+        (253, MOST_LEVELS + 1, 0, 10),
+        (253, MOST_LEVELS, 0, 11),
+        (253, 2, 2, 8),
+        (255, usize::MAX, 5, 12),
+        (10, usize::MAX, 5, 10),
+    ] {
         assert_eq!(run_read(&[255, 1], v, n, room).map_err(|r| (r.number, r.place)), Err((number, 0)));
     }
     let mut levels = vec![0; MOST_LEVELS + 1];
@@ -69,7 +78,11 @@ fn made_octets(v: u8, n: &mut Numbers) -> Vec<u8> {
         _ => {
             let (longest, high) = (n.one_of(&[1, 2, 9, 300]), n.within(0, v.into()) as u8);
             let levels = n.levels(len * 3, 0, high, longest);
-            if v < 254 { pack_loosely(&levels, v, n) } else { levels }
+            if v < 254 {
+                pack_loosely(&levels, v, n)
+            } else {
+                levels
+            }
         }
     };
     if n.once_in(4) {

@@ -88,7 +88,11 @@ fn section_1(s: &[u8]) -> Result<[u16; 6], u32> {
         && second <= 59
         && s[19] == 0
         && s[20] == 7;
-    if met { Ok(time) } else { Err(5) }
+    if met {
+        Ok(time)
+    } else {
+        Err(5)
+    }
 }
 
 fn section_3(s: &[u8]) -> Result<Grid, u32> {

@@ -37,14 +37,21 @@ impl Iterator for Runs<'_> {
     }
 }
 
-/// Whether octets give exactly n bins.
+/// Whether octets give exactly n bins. Lengths alone count, so one pass sums what each octet adds.
 pub fn gives(octets: &[u8], v: u8, n: usize) -> bool {
     if octets.first().is_some_and(|first| *first > v) {
         return false;
     }
-    let mut bins = 0;
-    for (_, length) in Runs::new(octets, v) {
-        bins += length;
+    let base = usize::from(255 - v);
+    let (mut bins, mut weight) = (0, 1);
+    for octet in octets {
+        if *octet <= v {
+            bins += 1;
+            weight = 1;
+        } else {
+            bins += usize::from(octet - v - 1) * weight;
+            weight = (weight * base).min(MOST_LEVELS);
+        }
         if bins > n {
             return false;
         }

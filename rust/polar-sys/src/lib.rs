@@ -84,7 +84,9 @@ pub fn ray_levels(file: &[u8], cut: usize, ray: usize, levels: &mut [u8], place:
 /// Nb marks at the front of `marks` and, at each measured place, the value in `values`.
 #[inline]
 pub fn ray_values(file: &[u8], cut: usize, ray: usize, marks: &mut [u8], values: &mut [i32], place: &mut [u64; 1]) -> u32 {
-    unsafe { polar_ray_values(file.as_ptr(), file.len(), cut, ray, marks.as_mut_ptr(), marks.len(), values.as_mut_ptr(), values.len(), place) }
+    unsafe {
+        polar_ray_values(file.as_ptr(), file.len(), cut, ray, marks.as_mut_ptr(), marks.len(), values.as_mut_ptr(), values.len(), place)
+    }
 }
 
 /// Answer: place, mark. The value is set only where the mark is 1.

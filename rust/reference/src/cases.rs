@@ -166,7 +166,9 @@ impl Cases {
             self.add(format!("all levels of {product:?}"), plan.file(), None);
             for level in 1..=product.levels() as usize {
                 for (from, change) in [(16, 0x80), (16, 1), (17, 1), (17, 0x80)] {
-                    self.change(format!("value of level {level}, bit {change}"), &plan, 5, Some(7), |s| s.octets[from + 2 * level - 1] ^= change);
+                    self.change(format!("value of level {level}, bit {change}"), &plan, 5, Some(7), |s| {
+                        s.octets[from + 2 * level - 1] ^= change
+                    });
                 }
             }
             self.change("minus zero in the table", &plan, 5, Some(7), |s| s.put(18, 2, MINUS16));

@@ -67,7 +67,19 @@ mod tests {
         for (level, value) in [(1, 0), (2, 16), (3, 48), (4, 80), (250, 7952), (252, 8016)] {
             assert_eq!(Reflectivity.value(level), Some(value));
         }
-        for (level, value) in [(1, 0), (2, 50), (3, -50), (218, 5450), (219, -5450), (220, 5513), (221, -5513), (222, 5600), (224, 5700), (250, 7000), (251, -7000)] {
+        for (level, value) in [
+            (1, 0),
+            (2, 50),
+            (3, -50),
+            (218, 5450),
+            (219, -5450),
+            (220, 5513),
+            (221, -5513),
+            (222, 5600),
+            (224, 5700),
+            (250, 7000),
+            (251, -7000),
+        ] {
             assert_eq!(Velocity.value(level), Some(value));
         }
         assert_eq!((Reflectivity.value(0), Velocity.value(0)), (None, None));

@@ -128,7 +128,9 @@ mod tests {
 
     #[test]
     fn checked_examples_of_reading() {
-        for (v, octets, n) in [(10, &[3, 11][..], 1), (10, &[3, 255], 245), (10, &[3, 11, 12], 246), (252, &[7, 255, 255], 9), (252, &[7, 253, 253, 254], 10)] {
+        for (v, octets, n) in
+            [(10, &[3, 11][..], 1), (10, &[3, 255], 245), (10, &[3, 11, 12], 246), (252, &[7, 255, 255], 9), (252, &[7, 253, 253, 254], 10)]
+        {
             assert_eq!(reads(octets, v, n), Ok(vec![octets[0]; n]));
             assert_eq!(reads(octets, v, n - 1), Err(8));
             assert_eq!(reads(octets, v, n + 1), Err(8));

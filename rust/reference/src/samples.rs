@@ -18,12 +18,18 @@ pub type Files = BTreeMap<PathBuf, Vec<u8>>;
 /// The files of samples/: what each shows is said in samples/README.md.
 fn shown() -> Vec<(&'static str, Vec<u8>)> {
     let day = rainy_day();
-    let ridge = day.plan(Product::Reflectivity, &[(120, 0.3), (120, 1.1), (100, 2.6)]).file();
+    let ridge = day.plan(Product::Reflectivity, &[(120, 0.3), (120, 1.1), (110, 2.6)]).file();
     let wind = day.plan(Product::Velocity, &[(120, 0.3), (120, 1.1)]).file();
     let mut dark = Plan::new(Product::Reflectivity, vec![CutPlan::of_levels(500, 512, &vec![0; 500 * 512])]);
     dark.cuts[0].elevation = u16::MAX;
     let cut_short = ridge[..ridge.len() / 2].to_vec();
-    vec![("document01.bin", document_sample().file()), ("ridge.bin", ridge), ("wind.bin", wind), ("dark.bin", dark.file()), ("cut-short.bin", cut_short)]
+    vec![
+        ("document01.bin", document_sample().file()),
+        ("ridge.bin", ridge),
+        ("wind.bin", wind),
+        ("dark.bin", dark.file()),
+        ("cut-short.bin", cut_short),
+    ]
 }
 
 /// The files that the program `samples` lists: those of samples/, cases of every refusal, random and spoiled ones.

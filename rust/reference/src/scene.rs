@@ -77,10 +77,21 @@ impl Scene {
             let (east, north) = sine_cosine(azimuth);
             // the crest goes up and down along the ridge
             let crest = rough.below(5) as f64 * spacing;
-            let shadow = self.ridges.iter().filter(|r| r.from <= azimuth && azimuth < r.to && angle < r.hides).map(|r| r.distance + crest).fold(f64::INFINITY, f64::min);
+            let shadow = self
+                .ridges
+                .iter()
+                .filter(|r| r.from <= azimuth && azimuth < r.to && angle < r.hides)
+                .map(|r| r.distance + crest)
+                .fold(f64::INFINITY, f64::min);
             for bin in 0..grid.bins {
                 let distance = (bin as f64 + 0.5) * spacing;
-                let sight = Sight { east: east * distance, north: north * distance, direction: (east, north), height: rise * distance, hidden: distance >= shadow };
+                let sight = Sight {
+                    east: east * distance,
+                    north: north * distance,
+                    direction: (east, north),
+                    height: rise * distance,
+                    hidden: distance >= shadow,
+                };
                 levels.push(on_bin(&sight, &mut rough));
             }
         }
@@ -153,14 +164,23 @@ pub fn rainy_day() -> Scene {
     let cell = |east, north, radius, peak| Cell { east, north, radius, peak };
     Scene {
         cells: vec![
-            cell(-38.0, 30.0, 16.0, 52.0),
-            cell(22.0, 35.0, 12.0, 46.0),
-            cell(30.0, -20.0, 20.0, 38.0),
-            cell(-10.0, -45.0, 9.0, 55.0),
-            cell(60.0, 60.0, 25.0, 44.0),
+            // a line of strong cells that goes in behind the ridge and comes out again
+            cell(-53.0, 4.0, 8.4, 51.0),
+            cell(-48.0, 18.0, 8.4, 54.0),
+            cell(-39.0, 29.0, 11.2, 57.0),
+            cell(-28.0, 38.0, 9.8, 55.0),
+            cell(-15.0, 44.0, 8.4, 53.0),
+            cell(-3.0, 46.0, 7.0, 50.0),
+            // scattered rain
+            cell(24.0, -18.0, 12.6, 38.0),
+            cell(33.0, -13.0, 8.4, 47.0),
+            cell(38.0, -24.0, 9.8, 43.0),
+            cell(-10.0, -40.0, 7.0, 54.0),
+            cell(-17.0, -44.0, 8.4, 40.0),
+            // far off
             cell(-120.0, -60.0, 45.0, 42.0),
             cell(90.0, -130.0, 60.0, 48.0),
-            cell(10.0, 170.0, 50.0, 50.0),
+            cell(130.0, 110.0, 50.0, 50.0),
         ],
         ridges: vec![
             Ridge { from: 285.0, to: 322.0, distance: 18.0, hides: 1.6 },
@@ -168,7 +188,7 @@ pub fn rainy_day() -> Scene {
             Ridge { from: 98.0, to: 104.0, distance: 34.0, hides: 0.6 },
         ],
         wind: (14.0, -6.0),
-        roughness: 0.6,
+        roughness: 0.5,
         seed: 308,
     }
 }

@@ -26,7 +26,7 @@ pub fn pack_loosely(levels: &[u8], v: u8, n: &mut Numbers) -> Vec<u8> {
 fn anywhere(n: &mut Numbers, most: u64) -> u64 {
     match n.below(4) {
         0 => n.one_of(&[0, most]),
-        _ => n.next() % (most + 1),
+        _ => n.word() % (most + 1),
     }
 }
 
@@ -90,7 +90,7 @@ pub fn random_plan(most_cuts: usize, most_bins: usize, most_rays: usize, n: &mut
         cuts.push(cut);
     }
     let mut plan = Plan::new(product, cuts);
-    plan.site = n.next() as u16;
+    plan.site = n.word() as u16;
     let ends = [(1000, 9999), (1, 12), (1, 31), (0, 23), (0, 59), (0, 59)];
     plan.time = ends.map(|(low, high)| (low + anywhere(n, high - low)) as u16);
     plan

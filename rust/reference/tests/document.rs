@@ -59,7 +59,9 @@ fn portions_of_the_sample() {
     assert_eq!((last.count, last.next), (1, (2, 0)));
     let end = stretches::house_stretches(&file, 0, (2, 0), &mut words).unwrap();
     assert_eq!((end.count, end.next), (0, (2, 0)));
-    for (threshold, point, room, number) in [(32768, (0, 0), 4, 10), (-32768, (0, 0), 4, 10), (0, (2, 1), 4, 10), (0, (0, 5), 4, 10), (0, (3, 0), 4, 10), (0, (2, 0), 3, 11)] {
+    for (threshold, point, room, number) in
+        [(32768, (0, 0), 4, 10), (-32768, (0, 0), 4, 10), (0, (2, 1), 4, 10), (0, (0, 5), 4, 10), (0, (3, 0), 4, 10), (0, (2, 0), 3, 11)]
+    {
         assert_eq!(stretches::stretches(&file, 0, threshold, point, &mut words[..room]).map_err(|r| r.number), Err(number));
     }
 }
