@@ -16,7 +16,7 @@ ghost use Rattle.rules.specs.Rules.{meetsAll, rules8};
 ghost use Rattle.rules.specs.Fields.{lengthAt, numberAt, pointsAt};
 ghost use Rattle.runs.specs.Run.{gives};
 ghost use Rattle.values.specs.Table.{tableRight};
-ghost use Rattle.layout.specs.Parts.{productOf, tableAt, dataAt};
+ghost use Rattle.layout.specs.Parts.{productOf, tableAt, dataAt, productIn};
 ghost use Rattle.layout.specs.Checks.{follows, framed, roomForCut, closes, checks1, checks3, checks4, checks5, rest5, checks6, checks7, ownChecks, checksAt};
 ghost use Rattle.layout.specs.Verdict.{firstFault, sections, verdict, answerFor};
 ghost use Rattle.layout.specs.Walk.{firstIn, contextIn, past, cutEnded, chosenAfter, Sound, stepOf};
@@ -132,6 +132,13 @@ fn product_of(parameter: u8) -> Product
     } else {
         Product::Velocity
     }
+}
+
+// The product of a cut.
+pub fn product_in(s: &[u8], c: Cut) -> Product
+    ensures { λ r. ⌜ r ≡ productIn (now (s .entry)) c ⌝ }
+{
+    product_of(rules::field8(s, c.section4, 11))
 }
 
 // Whether n octets from `at` on end at `end` or before.
