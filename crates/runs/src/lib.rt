@@ -37,22 +37,25 @@ pub fn scan_runs(octets: &[u8], v: u8, n: usize) -> Scan
         if n < bins {
             break 'runs;
         }
+        if octets.len() <= i {
+            break 'runs;
+        }
+        o = octets[i];
         let mut weight: usize = 1;
-        'digits: while i < octets.len() {
-            o = octets[i];
-            if o <= v {
-                continue 'runs;
-            }
+        'digits: while v < o {
             bins += (o - v - 1) as usize * weight;
+            i += 1;
             if n < bins {
                 break 'runs;
             }
-            i += 1;
+            if octets.len() <= i {
+                break 'runs;
+            }
+            o = octets[i];
             if weight <= n {
                 weight *= base;
             }
         }
-        break 'runs;
     }
     if i < octets.len() {
         return Scan::Off;
