@@ -211,7 +211,7 @@ pub fn run_read(octets: &[u8], v: u8, n: usize, out: &mut [u8]) -> RunRead
     if 253 < v {
         return RunRead::Refused(ReadRefusal::VOver253);
     }
-    if 2097152 < n {
+    if 2097152 < n { // 10 comes before 11
         return RunRead::Refused(ReadRefusal::TooManyBins);
     }
     if out.len() < n {
@@ -248,9 +248,8 @@ pub fn run_check(octets: &[u8], v: u8, n: usize) -> RunCheck
     if 2097152 < n {
         return RunCheck::Refused(CheckRefusal::TooManyBins);
     }
-    let found = scan_runs(octets, v, n);
-    let Scan::Exact = found else {
-        return RunCheck::Refused(CheckRefusal::WrongBins);
-    };
-    RunCheck::Gives
+    match scan_runs(octets, v, n) {
+        Scan::Exact => RunCheck::Gives,
+        Scan::Off => RunCheck::Refused(CheckRefusal::WrongBins),
+    }
 }
