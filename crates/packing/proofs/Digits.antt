@@ -3,13 +3,22 @@ use Prim.Native.Nat.{ℕ, zero, suc, _+_, _/_, _%_, _≤_, _<_, max}
 use mathlib.Core.Path.{_≡_, refl, sym, ap, _∙_}
 use mathlib.Core.List.{List, [], _∷_, _++_, map}
 use native.Mathlib.Nat.{div-lt-self}
+use native.Mathlib.Decide.{ℕ-discrete}
 use native.Mathlib.Omega.{arith}
-use lib.ListN.{length, drop, getD, length-map, drop-of-length-le}
+use lib.ListN.{length-append, length, drop, getD, length-map, drop-of-length-le}
 use lib.Seq.{drop-cons, take-all}
 use borrow.Author.Tests.{eq-eqb, ne-eqb}
 use Rattle.runs.specs.Run.{base}
 use Rattle.packing.specs.Write.{greatest, digitsUpTo, digitsOf, code, onFrom, written}
 use Rattle.runs.proofs.Bins.{either, drop-at}
+
+-- one of two cases
+pub alike {ℓ} : {P : Type ℓ} (a b : ℕ) → (a ≡ b → P) → ((a ≡ b → ⊥) → P) → P
+alike {P} a b f g = go (ℕ-discrete a b)
+  where
+    go : Dec (a ≡ b) → P
+    go (yes e) = f e
+    go (no e) = g e
 
 pub up-zero : (f b : ℕ) → digitsUpTo f b 0 ≡ []
 unfolding digitsUpTo
@@ -129,3 +138,15 @@ written-start v row h = ap (λ (s : List ℕ). written v s) (drop-cons row 0 0 h
 
 pub written-empty : (v : ℕ) (row : List ℕ) → length row ≡ 0 → written v row ≡ []
 written-empty v row h = ap (λ (s : List ℕ). written v s) (sym (take-all 0 row (omega arith))) ∙ written-nil v
+
+-- ---- the octets are no more than the levels
+onFrom-short : (v : ℕ) (s : List ℕ) (x k : ℕ) → length (onFrom v x k s) ≤ k + 1 + length s
+onFrom-short v [] x k = omega (arith, ap length (onFrom-nil v x k), code-short v x k)
+onFrom-short v (y ∷ s) x k =
+    alike y x
+    (λ e. omega (arith, ap length (onFrom-same v x k y s e), onFrom-short v s x (k + 1)))
+    (λ e. omega (arith, ap length (onFrom-other v x k y s e), length-append (code v x k) (onFrom v y 0 s), code-short v x k, onFrom-short v s y 0))
+
+pub written-short : (v : ℕ) (s : List ℕ) → length (written v s) ≤ length s
+written-short v [] = omega (arith, ap length (written-nil v))
+written-short v (x ∷ s) = omega (arith, ap length (written-cons v x s), onFrom-short v s x 0)

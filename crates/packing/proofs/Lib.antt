@@ -1,3 +1,4 @@
 pub mod Digits
 pub mod Placing
 pub mod ReadBack
+pub mod Calls

@@ -1,18 +1,14 @@
 -- A list that is written piece by piece: what stands in front, and what is still to come.
-use Prim.Native.Nat.{ℕ, _+_, _-_, _≤_, _<_}
+use Prim.Native.Nat.{ℕ, _+_, _-_, _≤_}
 use mathlib.Core.Path.{_≡_, refl, sym, ap, _∙_}
 use mathlib.Core.List.{List, [], _∷_, _++_}
 use native.Mathlib.Omega.{arith}
 use lib.ListN.{length, take, drop, set, length-append, length-drop}
-use lib.Seq.{take-set-le, drop-set-lt, take-add, drop-drop, take-append-seam, length-take-le}
+use lib.Seq.{take-add, drop-drop, take-append-seam, length-take-le}
 use Rattle.runs.specs.Lent.{front}
 use Rattle.packing.specs.Write.{written}
 use Rattle.runs.specs.Lent.{placed}
-use Rattle.runs.proofs.Lent.{placed-none, placed-more, placed-front}
-
-pub placed-set : (d : List ℕ) (at x : ℕ) (P : List ℕ) → 0 < length P → placed (set d at x) at P ≡ placed d at P
-unfolding placed
-placed-set d at x P h = simp (take-set-le at d at x (omega arith), drop-set-lt (at + length P) d at x (omega arith))
+use Rattle.runs.proofs.Lent.{placed-more, placed-front}
 
 -- ---- a part of a list grows by what comes next
 module _ (W : List ℕ) (at : ℕ) (p R : List ℕ) (next : drop at W ≡ p ++ R) (inside : at ≤ length W) where
@@ -48,14 +44,6 @@ module _ (d W : List ℕ) (at j o : ℕ) (R : List ℕ) (from : at ≤ j) (next 
       ap (λ (n : ℕ). set (placed d at P) n o) here
       ∙ placed-more d at P o (omega (arith, one-fits))
       ∙ ap (λ (l : List ℕ). placed d at l) (sym (next-take W (j - at) (o ∷ []) R next in-W) ∙ ap (λ (n : ℕ). take n W) one-on)
-
-pub first-put : (d : List ℕ) (at x : ℕ) → at < length d → set d at x ≡ placed (set d at x) at (x ∷ [])
-first-put d at x h =
-    let start : at ≡ at + length {A = ℕ} [] = omega arith in
-    ap (λ (l : List ℕ). set l at x) (placed-none d at)
-    ∙ ap (λ (n : ℕ). set (placed d at []) n x) start
-    ∙ placed-more d at [] x (omega arith)
-    ∙ sym (placed-set d at x (x ∷ []) (omega arith))
 
 -- ---- a run more of W in front
 module _ (W d : List ℕ) (at : ℕ) (p R : List ℕ) (next : drop at W ≡ p ++ R) (inside : at ≤ length W) where

@@ -1,21 +1,18 @@
--- What the writer writes reads back as the same levels.
+-- What the writer writes reads back as the same levels: a run's digits add up to what they were taken from.
 use Prim.Native.Nat.{ℕ, zero, suc, _+_, _-_, _*_, _/_, _%_, _≤_, _<_}
 use mathlib.Core.Path.{_≡_, refl, sym, ap, _∙_}
 use mathlib.Core.Bool.{true}
 use mathlib.Core.List.{List, [], _∷_, _++_, append-nil, append-assoc}
 use native.Mathlib.Nat.{div-lt-self, mod-add-div', add-mul, mul-assoc, mul-comm, mul-one, zero-mul}
-use native.Mathlib.Decide.{ℕ-discrete}
 use native.Mathlib.Omega.{arith}
 use lib.ListN.{length, replicate, replicate-append-replicate}
 use lib.Dec.{leb}
-use borrow.Author.Tests.{le-leb, le-ltb, leb-true, eq-eqb}
+use borrow.Author.Tests.{le-leb, leb-true, eq-eqb}
 use Rattle.runs.specs.Run.{base, digitSum, levels, opens, gives}
-use Rattle.runs.specs.Read.{readAnswer}
 use Rattle.packing.specs.Write.{greatest, digitsUpTo, digitsOf, code, onFrom, written}
-use Rattle.runs.specs.declared.RunRead.the-variants.{Read}
 use Rattle.runs.proofs.Bins.{either, levels-nil, levels-open, levels-digit}
 use Rattle.runs.proofs.Steps.{dsum, dsum-nil, dsum-open, dsum-digit, digitSum-is}
-use Rattle.packing.proofs.Digits.{octetsOf, code-is, up-zero, up-more, onFrom-nil, onFrom-same, onFrom-other, greatest-cons}
+use Rattle.packing.proofs.Digits.{alike, octetsOf, code-is, up-zero, up-more, onFrom-nil, onFrom-same, onFrom-other, greatest-cons}
 
 pub replicate-more : (m x : ℕ) (ys : List ℕ) → replicate m x ++ (x ∷ ys) ≡ replicate (m + 1) x ++ ys
 replicate-more m x ys = sym (append-assoc (replicate m x) (x ∷ []) ys) ∙ ap (λ (l : List ℕ). l ++ ys) (replicate-append-replicate m 1 x)
@@ -66,14 +63,6 @@ module _ (v : ℕ) (low : v ≤ 252) (t : List ℕ) (stop : opens v t ≡ true) 
       ∙ levels-open v x (ds ++ t) h
       ∙ (λ i. replicate (sum i) x ++ digits-levels (digitsOf (base v) k) i)
 
--- one of two cases
-pub alike {ℓ} : {P : Type ℓ} (a b : ℕ) → (a ≡ b → P) → ((a ≡ b → ⊥) → P) → P
-alike {P} a b f g = go (ℕ-discrete a b)
-  where
-    go : Dec (a ≡ b) → P
-    go (yes e) = f e
-    go (no e) = g e
-
 -- what is written on from a run of x opens with x
 code-opens : (v x k : ℕ) (t : List ℕ) → opens v (code v x k ++ t) ≡ leb x v
 unfolding code
@@ -111,15 +100,12 @@ unfolding written
 written-levels v low [] h = levels-nil v
 written-levels v low (x ∷ s) h = onFrom-levels v low s x 0 (omega (arith, greatest-cons x s)) (omega (arith, greatest-cons x s))
 
-written-opens : (v : ℕ) (s : List ℕ) → greatest s ≤ v → opens v (written v s) ≡ true
+pub written-opens : (v : ℕ) (s : List ℕ) → greatest s ≤ v → opens v (written v s) ≡ true
 unfolding written
 written-opens v [] h = refl
 written-opens v (x ∷ s) h = onFrom-opens v s x 0 ∙ le-leb x v (omega (arith, greatest-cons x s))
 
--- read again with the V and the number that the writer answers, they are accepted, as those levels
-pub read-back : (s : List ℕ) (room : ℕ) → length s ≤ 2097152 → greatest s ≤ 252 → length s ≤ room →
-    (readAnswer (greatest s) (length s) room (written (greatest s) s) ≡ Read) × (levels (greatest s) (written (greatest s) s) ≡ s)
-unfolding readAnswer gives
-read-back s room few low fits =
-    let same = written-levels (greatest s) low s (omega arith) in
-    (simp (le-ltb 253 (greatest s) (omega arith), le-ltb 2097152 (length s) few, le-ltb room (length s) fits, written-opens (greatest s) s (omega arith), eq-eqb _ _ (ap length same)), same)
+-- read with that V they give exactly those levels
+pub written-gives : (v : ℕ) → v ≤ 252 → (s : List ℕ) → greatest s ≤ v → gives v (length s) (written v s) ≡ true
+unfolding gives
+written-gives v low s h = simp (written-opens v s h, eq-eqb _ _ (ap length (written-levels v low s h)))

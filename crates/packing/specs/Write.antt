@@ -1,5 +1,6 @@
 -- Document 01, "Run-length rule" and "Calls": what run write writes, what it answers, and what the lent octets then hold.
-use Prim.Native.Nat.{ℕ, zero, suc, _+_, _/_, _%_, max}
+use Prim.Native.Nat.{ℕ, zero, suc, _+_, _/_, _%_, _≤_, max}
+use mathlib.Core.Path.{_≡_}
 use mathlib.Core.List.{List, [], _∷_, _++_, map}
 use mathlib.Core.Bool.{cond}
 use lib.ListN.{length}
@@ -55,6 +56,17 @@ writeAnswer room s =
 abbrev pub writeOut : RunWrite → List ℕ → List ℕ → List ℕ
 writeOut (Wrote v n) p d = front p d
 writeOut (Refused why) p d = d
+
+-- when run write writes: levels in number and size in range, and room for the exact written length
+pub record Writable (room : ℕ) (s : List ℕ) : Type 0 where
+  pub few : length s ≤ 2097152
+  pub low : greatest s ≤ 252
+  pub room-enough : length (packed s) ≤ room
+
+-- the promise of run write, s the levels and d the lent octets before it: the answer, and the lent octets after it
+pub record WritePromise (s d : List ℕ) (answer : RunWrite) (out : List ℕ) : Type 0 where
+  pub answered : answer ≡ writeAnswer (length d) s
+  pub held : out ≡ writeOut answer (packed s) d
 
 -- "A refusal returns its number and a place", which is 0 for the bare run calls
 abbrev pub writeNumber : WriteRefusal → ℕ

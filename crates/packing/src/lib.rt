@@ -3,8 +3,9 @@
 ghost use mathlib.Core.Path.{_≡_};
 ghost use Prim.Native.Nat.{_≤_, _+_};
 ghost use lib.ListN.{length};
+ghost use lib.Dec.{leb};
 ghost use Rattle.runs.specs.Lent.{front, placed};
-ghost use Rattle.packing.specs.Write.{greatest, digitsOf, code, written, packed, writeAnswer, writeOut};
+ghost use Rattle.packing.specs.Write.{greatest, digitsOf, code, written, WritePromise};
 
 // The greatest level.
 fn greatest_of(levels: &[u8]) -> u8
@@ -81,13 +82,25 @@ fn put_run(out: &mut [u8], at: usize, v: u8, x: u8, k: usize) -> usize
     j
 }
 
-// All runs at the front of out.
-fn put_all(levels: &[u8], v: u8, out: &mut [u8])
+// Whether the octets for the levels fit a room. They are never more than the levels, so that it seldom takes a pass to tell.
+fn has_room(levels: &[u8], v: u8, room: usize) -> bool
+    requires { ⌜ (v ≤ 252) × (length (now levels) ≤ 2097152) ⌝ }
+    ensures { λ r. ⌜ r ≡ leb (length (written v (now (levels .entry)))) room ⌝ }
+{
+    if levels.len() <= room {
+        return true;
+    }
+    measure(levels, v) <= room
+}
+
+// All runs at the front of out; how many octets they are.
+fn put_all(levels: &[u8], v: u8, out: &mut [u8]) -> usize
     requires { ⌜ (v ≤ 252) × (length (now levels) ≤ 2097152) × (length (written v (now levels)) ≤ length (now out)) ⌝ }
+    ensures { λ r. ⌜ r ≡ length (written v (now (levels .entry))) ⌝ }
     ensures { λ _. ⌜ now (out .exit) ≡ front (written v (now (levels .entry))) (now (out .entry)) ⌝ }
 {
     if levels.len() == 0 {
-        return;
+        return 0;
     }
     let mut x = levels[0];
     let mut k: usize = 0;
@@ -104,7 +117,7 @@ fn put_all(levels: &[u8], v: u8, out: &mut [u8])
             k = 0;
         }
     }
-    put_run(out, at, v, x, k);
+    put_run(out, at, v, x, k)
 }
 
 // Why run write refuses, a case for each of document 01's numbers: 10 (too many levels, or a level over 252) and 11.
@@ -121,8 +134,7 @@ pub enum RunWrite {
 
 // Run write: the octets for the levels, at the front of out.
 pub fn run_write(levels: &[u8], out: &mut [u8]) -> RunWrite
-    ensures { λ r. ⌜ r ≡ writeAnswer (length (now (out .entry))) (now (levels .entry)) ⌝ }
-    ensures { λ r. ⌜ now (out .exit) ≡ writeOut r (packed (now (levels .entry))) (now (out .entry)) ⌝ }
+    ensures { λ r. ⌜ WritePromise (now (levels .entry)) (now (out .entry)) r (now (out .exit)) ⌝ }
 {
     if 2097152 < levels.len() {
         return RunWrite::Refused(WriteRefusal::LevelsOutOfRange);
@@ -131,10 +143,9 @@ pub fn run_write(levels: &[u8], out: &mut [u8]) -> RunWrite
     if 252 < v {
         return RunWrite::Refused(WriteRefusal::LevelsOutOfRange);
     }
-    let len = measure(levels, v);
-    if out.len() < len {
+    if !has_room(levels, v, out.len()) {
         return RunWrite::Refused(WriteRefusal::RoomTooShort);
     }
-    put_all(levels, v, out);
+    let len = put_all(levels, v, out);
     RunWrite::Wrote { v, len }
 }

@@ -2,11 +2,9 @@
 // Each call returns 0 or document 01's refusal number; the words of an answer go to a lent array, its first the refusal's place (0 where not
 // refused). Nothing is decided here: the crates below decide, and specs/ says how each of their answers goes out.
 ghost use mathlib.Core.Path.{_≡_};
-ghost use lib.ListN.{length};
-ghost use Rattle.runs.specs.Run.{levels};
-ghost use Rattle.runs.specs.Read.{readAnswer, readOut, checkAnswer, readNumber, readPlace, checkNumber};
-ghost use Rattle.packing.specs.Write.{packed, writeAnswer, writeOut, writeNumber, writePlace};
-ghost use Rattle.polar_c.specs.Runs.{runCheckNumber, runReadNumber, runReadWords, runWriteNumber, runWriteWords};
+ghost use Rattle.runs.specs.Read.{readNumber, readPlace, checkNumber};
+ghost use Rattle.packing.specs.Write.{writeNumber, writePlace};
+ghost use Rattle.polar_c.specs.Runs.{RunCheckCall, RunReadCall, RunWriteCall};
 use packing::RunWrite;
 use packing::WriteRefusal;
 use runs::CheckRefusal;
@@ -67,7 +65,7 @@ fn write_place(why: WriteRefusal) -> u64
 // Run check: 0, 12, 10 or 8, what run read would find.
 #[no_mangle]
 pub extern "C" fn polar_run_check(octets: &[u8], v: u8, n: usize) -> u32
-    ensures { λ r. ⌜ r ≡ runCheckNumber (checkAnswer v n (now (octets .entry))) ⌝ }
+    ensures { λ r. ⌜ RunCheckCall v n (now (octets .entry)) r ⌝ }
 {
     match runs::run_check(octets, v, n) {
         RunCheck::Gives => 0,
@@ -75,7 +73,7 @@ pub extern "C" fn polar_run_check(octets: &[u8], v: u8, n: usize) -> u32
     }
 }
 
-// Run read: n levels at the front of `levels`.
+// Run read: n levels at the front of `out`.
 #[no_mangle]
 pub extern "C" fn polar_run_read(
     octets: &[u8],
@@ -84,9 +82,7 @@ pub extern "C" fn polar_run_read(
     out: &mut [u8],
     place: &mut [u64; 1],
 ) -> u32
-    ensures { λ r. ⌜ r ≡ runReadNumber (readAnswer v n (length (now (out .entry))) (now (octets .entry))) ⌝ }
-    ensures { λ _. ⌜ now (out .exit) ≡ readOut (readAnswer v n (length (now (out .entry))) (now (octets .entry))) (levels v (now (octets .entry))) (now (out .entry)) ⌝ }
-    ensures { λ _. ⌜ now (place .exit) ≡ runReadWords (readAnswer v n (length (now (out .entry))) (now (octets .entry))) (now (place .entry)) ⌝ }
+    ensures { λ r. ⌜ RunReadCall v n (now (octets .entry)) (now (out .entry)) (now (place .entry)) r (now (out .exit)) (now (place .exit)) ⌝ }
 {
     match runs::run_read(octets, v, n, out) {
         RunRead::Read => {
@@ -103,9 +99,7 @@ pub extern "C" fn polar_run_read(
 // Run write: the octets for the levels at the front of `out`; `answer` is place, V, number of octets.
 #[no_mangle]
 pub extern "C" fn polar_run_write(levels: &[u8], out: &mut [u8], answer: &mut [u64; 3]) -> u32
-    ensures { λ r. ⌜ r ≡ runWriteNumber (writeAnswer (length (now (out .entry))) (now (levels .entry))) ⌝ }
-    ensures { λ _. ⌜ now (out .exit) ≡ writeOut (writeAnswer (length (now (out .entry))) (now (levels .entry))) (packed (now (levels .entry))) (now (out .entry)) ⌝ }
-    ensures { λ _. ⌜ now (answer .exit) ≡ runWriteWords (writeAnswer (length (now (out .entry))) (now (levels .entry))) (now (answer .entry)) ⌝ }
+    ensures { λ r. ⌜ RunWriteCall (now (levels .entry)) (now (out .entry)) (now (answer .entry)) r (now (out .exit)) (now (answer .exit)) ⌝ }
 {
     match packing::run_write(levels, out) {
         RunWrite::Wrote { v, len } => {

@@ -1,23 +1,45 @@
--- The run at a place, within the row of all levels: the levels from there on are that run and then the levels past its digits.
-use Prim.Native.Nat.{ℕ, suc, _+_, _≤_, _<_}
+-- The run at a place: the levels from there on are that run and then the levels past its digits. The laws by which a caller walks run by run.
+use Prim.Native.Nat.{ℕ, suc, _+_, _-_, _≤_, _<_}
 use mathlib.Core.Path.{_≡_, refl, sym, ap, _∙_}
 use mathlib.Core.Bool.{Bool, true, false, cond}
 use mathlib.Core.List.{List, [], _∷_, _++_}
 use native.Mathlib.Omega.{arith}
-use lib.ListN.{length, drop, getD, replicate, length-append, length-replicate, length-drop, drop-of-length-le}
-use lib.Seq.{drop-drop, drop-at}
+use lib.ListN.{length, drop, getD, replicate, length-append, length-replicate, length-drop, drop-of-length-le, getD-replicate, List·getD-append}
+use lib.Seq.{drop-drop, drop-at, getD-append-add}
 use lib.Dec.{leb, eqb}
 use borrow.Author.Tests.{le-leb, leb-true, eqb-true}
-use Rattle.runs.specs.Run.{digitCount, levels, opens, gives, runLen, runNext, stepAt}
+use Rattle.runs.specs.Run.{digitSum, digitCount, levels, opens, gives, runLen, runNext, stepAt}
 use Rattle.runs.specs.declared.Scan.the-variants.{Exact, Off}
-use Rattle.runs.specs.declared.Step.the-variants.{Run, Over, End}
+use Rattle.runs.specs.declared.Step.the-variants.{Run, Above, Over, End}
 use Rattle.runs.proofs.Bins.{either, drop-at as drop-here, levels-nil, levels-open, levels-digit}
-use Rattle.runs.proofs.Steps.{stepAt-run, stepAt-end, digitCount-open, digitCount-digit}
+use Rattle.runs.proofs.Steps.{stepAt-end, stepAt-above, stepAt-run, digitCount-nil, digitCount-open, digitCount-digit}
 
--- past the digits at the front stands a level or the end, and the levels are the same
+-- ---- every level is at most V
+pub levels-le : (v : ℕ) (s : List ℕ) (k : ℕ) → k < length (levels v s) → getD (levels v s) k 0 ≤ v
+levels-le v [] k h = absurd (omega (arith, ap length (levels-nil v)))
+levels-le v (o ∷ s) k h =
+    either o v
+    (λ low.
+    let m : ℕ = 1 + digitSum v 0 s in
+    let row = levels-open v o s low in
+    let size = length-append (replicate m o) (levels v s) in
+    let run = length-replicate m o in
+    either m k
+    (λ g.
+    let j : ℕ = k - m in
+    let split : k ≡ length (replicate m o) + j = omega arith in
+    let here : getD (levels v (o ∷ s)) k 0 ≡ getD (levels v s) j 0 =
+    (λ i. getD (row i) (split i) 0) ∙ getD-append-add (replicate m o) (levels v s) j 0 in
+    omega (arith, here, levels-le v s j (omega (arith, ap length row))))
+    (λ g.
+    let here : getD (levels v (o ∷ s)) k 0 ≡ o =
+    ap (λ (l : List ℕ). getD l k 0) row ∙ List·getD-append (replicate m o) (levels v s) 0 k (omega arith) ∙ getD-replicate m k o 0 g in
+    omega (arith, here)))
+    (λ high. let row = levels-digit v o s high in rw row (levels-le v s k (omega (arith, ap length row))))
+
+-- ---- past the digits at the front stands a level or the end, and the levels are the same
 skip : (v : ℕ) (t : List ℕ) → (levels v t ≡ levels v (drop (digitCount v t) t)) × (opens v (drop (digitCount v t) t) ≡ true)
-unfolding digitCount
-skip v [] = (refl, refl)
+skip v [] = (ap (λ (n : ℕ). levels v (drop n [])) (sym (digitCount-nil v)), ap (λ (n : ℕ). opens v (drop n [])) (digitCount-nil v))
 skip v (o ∷ t) =
     either o v
     (λ h. (sym (ap (λ (n : ℕ). levels v (drop n (o ∷ t))) (digitCount-open v o t h)), ap (λ (n : ℕ). opens v (drop n (o ∷ t))) (digitCount-open v o t h) ∙ le-leb o v h))
@@ -25,49 +47,63 @@ skip v (o ∷ t) =
     let one : digitCount v (o ∷ t) ≡ suc (digitCount v t) = omega (arith, digitCount-digit v o t h) in
     (levels-digit v o t h ∙ skip v t .0 ∙ sym (ap (λ (n : ℕ). levels v (drop n (o ∷ t))) one), ap (λ (n : ℕ). opens v (drop n (o ∷ t))) one ∙ skip v t .1))
 
-module _ (v : ℕ) (s : List ℕ) (at bins : ℕ) (L : List ℕ) (more : bins < length L) (rest : drop bins L ≡ levels v (drop at s)) (opened : opens v (drop at s) ≡ true) where
-  pub here-inside : at < length s
-  here-inside =
-      either (length s) at
-      (λ h. absurd (omega (arith, simp length-drop at (ap length (rest ∙ ap (λ (l : List ℕ). levels v l) (drop-of-length-le s h) ∙ levels-nil v)))))
-      (λ h. h)
+digitCount-le : (v : ℕ) (t : List ℕ) → digitCount v t ≤ length t
+digitCount-le v [] = omega (arith, digitCount-nil v)
+digitCount-le v (o ∷ t) =
+    either o v
+    (λ h. omega (arith, digitCount-open v o t h))
+    (λ h. omega (arith, digitCount-digit v o t h, digitCount-le v t))
 
-  pub here-level : getD s at 0 ≤ v
-  here-level = leb-true (getD s at 0) v (rw (drop-here s at here-inside) at opened)
+-- ---- the run that a level octet opens
+module _ (v : ℕ) (s : List ℕ) (at : ℕ) (inside : at < length s) (level : getD s at 0 ≤ v) where
+  pub run-levels : levels v (drop at s) ≡ replicate (runLen v s at) (getD s at 0) ++ levels v (drop (runNext v s at) s)
+  run-levels =
+      ap (λ (l : List ℕ). levels v l) (drop-here s at inside)
+      ∙ levels-open v (getD s at 0) (drop (at + 1) s) level
+      ∙ ap (λ (l : List ℕ). replicate (runLen v s at) (getD s at 0) ++ l) (skip v (drop (at + 1) s) .0 ∙ ap (λ (l : List ℕ). levels v l) (drop-drop (digitCount v (drop (at + 1) s)) (at + 1) s))
 
-  here-row : drop bins L ≡ replicate (runLen v s at) (getD s at 0) ++ levels v (drop (at + 1) s)
-  here-row = rest ∙ ap (λ (l : List ℕ). levels v l) (drop-here s at here-inside) ∙ levels-open v (getD s at 0) (drop (at + 1) s) here-level
+  pub run-opens : opens v (drop (runNext v s at) s) ≡ true
+  run-opens = sym (ap (λ (l : List ℕ). opens v l) (drop-drop (digitCount v (drop (at + 1) s)) (at + 1) s)) ∙ skip v (drop (at + 1) s) .1
 
-  pub here-fits : bins + runLen v s at ≤ length L
-  here-fits = omega (arith, simp (length-drop, length-append, length-replicate) at (ap length here-row))
+  pub run-next-le : runNext v s at ≤ length s
+  run-next-le = omega (arith, digitCount-le v (drop (at + 1) s), length-drop (at + 1) s)
 
-  here-past : drop (bins + runLen v s at) L ≡ levels v (drop (at + 1) s)
-  here-past = sym (drop-drop (runLen v s at) bins L) ∙ ap (λ (l : List ℕ). drop (runLen v s at) l) here-row ∙ drop-at (replicate (runLen v s at) (getD s at 0)) (levels v (drop (at + 1) s)) (runLen v s at) (length-replicate (runLen v s at) (getD s at 0))
+  pub run-fits : runLen v s at ≤ length (levels v (drop at s))
+  run-fits = omega (arith, simp (length-append, length-replicate) at (ap length run-levels))
 
-  pub here-run : drop bins L ≡ replicate (runLen v s at) (getD s at 0) ++ drop (bins + runLen v s at) L
-  here-run = here-row ∙ ap (λ (l : List ℕ). replicate (runLen v s at) (getD s at 0) ++ l) (sym here-past)
+-- past the end there is nothing
+pub levels-past : (v : ℕ) (s : List ℕ) (at : ℕ) → length s ≤ at → levels v (drop at s) ≡ []
+levels-past v s at h = ap (λ (l : List ℕ). levels v l) (drop-of-length-le s h) ∙ levels-nil v
 
-  pub here-rest : drop (bins + runLen v s at) L ≡ levels v (drop (runNext v s at) s)
-  here-rest = here-past ∙ skip v (drop (at + 1) s) .0 ∙ ap (λ (l : List ℕ). levels v l) (drop-drop (digitCount v (drop (at + 1) s)) (at + 1) s)
+-- where there are levels to come and no digit stands, a level octet stands
+module _ (v : ℕ) (s : List ℕ) (at : ℕ) (opened : opens v (drop at s) ≡ true) (some : 0 < length (levels v (drop at s))) where
+  pub level-inside : at < length s
+  level-inside = either (length s) at (λ h. absurd (omega (arith, ap length (levels-past v s at h)))) (λ h. h)
 
-  pub here-opened : opens v (drop (runNext v s at) s) ≡ true
-  here-opened = sym (ap (λ (l : List ℕ). opens v l) (drop-drop (digitCount v (drop (at + 1) s)) (at + 1) s)) ∙ skip v (drop (at + 1) s) .1
+  pub level-low : getD s at 0 ≤ v
+  level-low = leb-true (getD s at 0) v (rw (drop-here s at level-inside) at opened)
 
-  pub here-step : (cap : ℕ) → stepAt v cap s at ≡ cond (leb (runLen v s at) cap) (Run (getD s at 0) (runLen v s at) (runNext v s at)) Over
-  here-step cap = sym (stepAt-run v cap s at here-inside here-level)
+  -- and the step there is that run, or over the cap
+  pub step-there : (cap : ℕ) → stepAt v cap s at ≡ cond (leb (runLen v s at) cap) (Run (getD s at 0) (runLen v s at) (runNext v s at)) Over
+  step-there cap = sym (stepAt-run v cap s at level-inside level-low)
 
--- where all bins have come, the octets end
-pub here-done : (v cap : ℕ) (s : List ℕ) (at bins : ℕ) (L : List ℕ) → length L ≤ bins → drop bins L ≡ levels v (drop at s) → opens v (drop at s) ≡ true → End ≡ stepAt v cap s at
-here-done v cap s at bins L h rest opened =
-    either (length s) at
-    (λ g. stepAt-end v cap s at g)
-    (λ g.
-    let o : ℕ = getD s at 0 in
-    let le : o ≤ v = leb-true o v (rw (drop-here s at g) at opened) in
-    let row = ap length (rest ∙ ap (λ (l : List ℕ). levels v l) (drop-here s at g) ∙ levels-open v o (drop (at + 1) s) le) in
-    absurd (omega (arith, simp (length-drop, length-append, length-replicate) at row)))
+  pub step-runs : (cap : ℕ) → length (levels v (drop at s)) ≤ cap → stepAt v cap s at ≡ Run (getD s at 0) (runLen v s at) (runNext v s at)
+  step-runs cap h =
+      let fits : runLen v s at ≤ cap = omega (arith, run-fits v s at level-inside level-low) in
+      step-there cap ∙ ap (λ (b : Bool). cond b (Run (getD s at 0) (runLen v s at) (runNext v s at)) Over) (le-leb (runLen v s at) cap fits)
 
--- a run or one that goes on over the cap, told apart
+-- ---- what a step that answers a run says of the levels
+pub record RunHere (v : ℕ) (s : List ℕ) (at cap level len next : ℕ) : Type 0 where
+  pub inside : at < length s
+  pub low : level ≤ v
+  pub some : 0 < len
+  pub within : len ≤ cap
+  pub on : at < next
+  pub next-le : next ≤ length s
+  pub opened : opens v (drop next s) ≡ true
+  pub row : levels v (drop at s) ≡ replicate len level ++ levels v (drop next s)
+
+-- a run, and one that goes on over the cap, told apart
 pub is-run : (b : Bool) (o l n x y z : ℕ) → Run x y z ≡ cond b (Run o l n) Over → (b ≡ true) × (x ≡ o) × (y ≡ l) × (z ≡ n)
 is-run true o l n x y z e = (refl, cc e, cc e, cc e)
 is-run false o l n x y z e = absurd (let w : _≡_ {A = ℕ} 0 1 = cc e in omega arith)
@@ -76,7 +112,67 @@ pub is-over : (b : Bool) (o l n : ℕ) → Over ≡ cond b (Run o l n) Over → 
 is-over false o l n e = refl
 is-over true o l n e = absurd (let w : _≡_ {A = ℕ} 0 1 = cc e in omega arith)
 
--- what a scan tells
+not-end : (x y z : ℕ) → Run x y z ≡ End → ⊥
+not-end x y z e = let w : _≡_ {A = ℕ} 0 1 = cc e in omega arith
+
+not-above : (x y z : ℕ) → Run x y z ≡ Above → ⊥
+not-above x y z e = let w : _≡_ {A = ℕ} 0 1 = cc e in omega arith
+
+module _ (v cap : ℕ) (s : List ℕ) (at level len next : ℕ) (e : Run level len next ≡ stepAt v cap s at) where
+  found : (inside : at < length s) (low : getD s at 0 ≤ v) → RunHere v s at cap level len next
+  found inside low =
+      let r = is-run (leb (runLen v s at) cap) (getD s at 0) (runLen v s at) (runNext v s at) level len next (e ∙ sym (stepAt-run v cap s at inside low)) in
+      let fits = leb-true (runLen v s at) cap (r .0) in
+      record {
+        inside = inside;
+        low = omega (arith, r .1);
+        some = omega (arith, r .2);
+        within = omega (arith, r .2);
+        on = omega (arith, r .3);
+        next-le = omega (arith, r .3, run-next-le v s at inside low);
+        opened = ap (λ (n : ℕ). opens v (drop n s)) (r .3) ∙ run-opens v s at inside low;
+        row = run-levels v s at inside low ∙ (λ i. replicate (sym (r .2) i) (sym (r .1) i) ++ levels v (drop (sym (r .3) i) s));
+      }
+
+  pub step-run : RunHere v s at cap level len next
+  step-run =
+      either (length s) at
+      (λ h. absurd (not-end level len next (e ∙ sym (stepAt-end v cap s at h))))
+      (λ inside.
+      either (getD s at 0) v
+      (λ low. found inside low)
+      (λ high. absurd (not-above level len next (e ∙ sym (stepAt-above v cap s at inside high)))))
+
+-- ---- within the row of all levels L, after its first `bins`
+module _ (v : ℕ) (s : List ℕ) (at bins : ℕ) (L : List ℕ) (more : bins < length L) (rest : drop bins L ≡ levels v (drop at s)) (opened : opens v (drop at s) ≡ true) where
+  some-left : 0 < length (levels v (drop at s))
+  some-left = omega (arith, simp length-drop at (ap length rest))
+
+  pub here-inside : at < length s
+  here-inside = level-inside v s at opened some-left
+
+  here-low : getD s at 0 ≤ v
+  here-low = level-low v s at opened some-left
+
+  pub here-fits : bins + runLen v s at ≤ length L
+  here-fits = omega (arith, run-fits v s at here-inside here-low, simp length-drop at (ap length rest))
+
+  pub here-rest : drop (bins + runLen v s at) L ≡ levels v (drop (runNext v s at) s)
+  here-rest =
+      sym (drop-drop (runLen v s at) bins L)
+      ∙ ap (λ (l : List ℕ). drop (runLen v s at) l) (rest ∙ run-levels v s at here-inside here-low)
+      ∙ drop-at (replicate (runLen v s at) (getD s at 0)) (levels v (drop (runNext v s at) s)) (runLen v s at) (length-replicate (runLen v s at) (getD s at 0))
+
+  pub here-run : drop bins L ≡ replicate (runLen v s at) (getD s at 0) ++ drop (bins + runLen v s at) L
+  here-run = rest ∙ run-levels v s at here-inside here-low ∙ ap (λ (l : List ℕ). replicate (runLen v s at) (getD s at 0) ++ l) (sym here-rest)
+
+  pub here-opened : opens v (drop (runNext v s at) s) ≡ true
+  here-opened = run-opens v s at here-inside here-low
+
+  pub here-step : (cap : ℕ) → stepAt v cap s at ≡ cond (leb (runLen v s at) cap) (Run (getD s at 0) (runLen v s at) (runNext v s at)) Over
+  here-step cap = step-there v s at opened some-left cap
+
+-- ---- what a scan tells
 pub told : (b : Bool) → Exact ≡ cond b Exact Off → b ≡ true
 told true e = refl
 told false e = absurd (let z : _≡_ {A = ℕ} 0 1 = cc e in omega arith)

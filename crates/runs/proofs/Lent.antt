@@ -2,10 +2,10 @@
 use Prim.Native.Nat.{ℕ, suc, _+_, _-_, _≤_, _<_}
 use mathlib.Core.Path.{_≡_, sym, ap, _∙_}
 use mathlib.Core.List.{List, [], _∷_, _++_, append-assoc}
-use native.Mathlib.Nat.{add-zero, sub-self}
+use native.Mathlib.Nat.{add-zero}
 use native.Mathlib.Omega.{arith}
 use lib.ListN.{length, replicate, take, drop, set, getD, take-append-drop, length-append, length-replicate, length-drop, replicate-append-replicate}
-use lib.Seq.{set-at, length-take-le, drop-cons, take-at, drop-at, take-add, drop-drop, drop-append-add, take-append-seam}
+use lib.Seq.{take-set-le, drop-set-lt, set-at, length-take-le, drop-cons, take-at, drop-at, take-add, drop-drop, drop-append-add, take-append-seam}
 use Rattle.runs.proofs.Bins.{either}
 use Rattle.runs.specs.Lent.{front, placed, between}
 
@@ -31,6 +31,19 @@ module _ (d : List ℕ) (at : ℕ) (P : List ℕ) where
       ∙ ap (λ (l : List ℕ). take at d ++ l) (sym (append-assoc P (o ∷ []) (drop (suc j) d)))
       ∙ ap (λ (n : ℕ). take at d ++ ((P ++ (o ∷ [])) ++ drop n d)) next
 
+-- a store where p is to stand makes no difference to it
+pub placed-set : (d : List ℕ) (at x : ℕ) (P : List ℕ) → 0 < length P → placed (set d at x) at P ≡ placed d at P
+unfolding placed
+placed-set d at x P h = simp (take-set-le at d at x (omega arith), drop-set-lt (at + length P) d at x (omega arith))
+
+pub first-put : (d : List ℕ) (at x : ℕ) → at < length d → set d at x ≡ placed (set d at x) at (x ∷ [])
+first-put d at x h =
+    let start : at ≡ at + length {A = ℕ} [] = omega arith in
+    ap (λ (l : List ℕ). set l at x) (placed-none d at)
+    ∙ ap (λ (n : ℕ). set (placed d at []) n x) start
+    ∙ placed-more d at [] x (omega arith)
+    ∙ sym (placed-set d at x (x ∷ []) (omega arith))
+
 -- what is placed where the front ends makes the front longer
 pub placed-front : (P d p : List ℕ) → placed (front P d) (length P) p ≡ front (P ++ p) d
 unfolding placed
@@ -55,8 +68,18 @@ module _ (d : List ℕ) (lo i x : ℕ) (le : lo ≤ i) where
       ∙ placed-more d lo (replicate (i - lo) x) x (omega arith)
       ∙ ap (λ (l : List ℕ). placed d lo l) (replicate-append-replicate (i - lo) 1 x ∙ ap (λ (n : ℕ). replicate n x) more)
 
-pub row-none : (d : List ℕ) (lo x : ℕ) → d ≡ placed d lo (replicate (lo - lo) x)
-row-none d lo x = placed-none d lo ∙ ap (λ (n : ℕ). placed d lo (replicate n x)) (sym (sub-self lo))
+pub row-none : (d : List ℕ) (lo hi x : ℕ) → hi ≤ lo → d ≡ placed d lo (replicate (hi - lo) x)
+row-none d lo hi x h =
+    let none : 0 ≡ hi - lo = omega arith in
+    placed-none d lo ∙ ap (λ (n : ℕ). placed d lo (replicate n x)) none
+
+pub row-one : (d : List ℕ) (lo x : ℕ) → lo < length d → set d lo x ≡ placed (set d lo x) lo (replicate (lo + 1 - lo) x)
+row-one d lo x h =
+    let one : 1 ≡ lo + 1 - lo = omega arith in
+    first-put d lo x h ∙ ap (λ (n : ℕ). placed (set d lo x) lo (replicate n x)) one
+
+pub row-all : (d : List ℕ) (lo hi x : ℕ) → lo < hi → placed (set d lo x) lo (replicate (hi - lo) x) ≡ placed d lo (replicate (hi - lo) x)
+row-all d lo hi x h = placed-set d lo x (replicate (hi - lo) x) (omega (arith, length-replicate (hi - lo) x))
 
 -- ---- a part of a row of levels
 pub length-between : (L : List ℕ) (a e : ℕ) → e ≤ length L → length (between a e L) ≡ e - a

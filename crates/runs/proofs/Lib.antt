@@ -2,4 +2,7 @@ pub mod Bins
 pub mod Scanning
 pub mod Steps
 pub mod Here
+pub mod Digits
 pub mod Lent
+pub mod Meaning
+pub mod Calls

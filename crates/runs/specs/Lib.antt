@@ -1,3 +1,4 @@
 pub mod Run
+pub mod Runs
 pub mod Lent
 pub mod Read

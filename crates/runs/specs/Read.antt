@@ -1,9 +1,12 @@
 -- Document 01, "Calls" and "Refusal numbers": what run read and run check answer, and what the lent levels then hold.
-use Prim.Native.Nat.{ℕ}
+use Prim.Native.Nat.{ℕ, _≤_}
+use mathlib.Core.Path.{_≡_}
 use mathlib.Core.List.{List}
 use mathlib.Core.Bool.{cond}
+use lib.ListN.{length}
 use lib.Dec.{ltb}
-use Rattle.runs.specs.Run.{gives}
+use Rattle.runs.specs.Run.{levels, gives}
+use Rattle.runs.specs.Runs.{Exactly}
 use Rattle.runs.specs.Lent.{front}
 use Rattle.runs.specs.declared.ReadRefusal.{ReadRefusal}
 use Rattle.runs.specs.declared.ReadRefusal.the-variants.{VOver253, TooManyBins, RoomTooShort, WrongBins}
@@ -27,6 +30,18 @@ abbrev pub readOut : RunRead → List ℕ → List ℕ → List ℕ
 readOut Read p d = front p d
 readOut (Refused why) p d = d
 
+-- when run read gives levels: V and n in range, room for n, and octets that stand for exactly n levels
+pub record Readable (v n room : ℕ) (s : List ℕ) : Type 0 where
+  pub low : v ≤ 253
+  pub few : n ≤ 2097152
+  pub room-enough : n ≤ room
+  pub exactly : Exactly v n s
+
+-- the promise of run read, s the octets and d the lent levels before it: the answer, and the lent levels after it
+pub record ReadPromise (v n : ℕ) (s d : List ℕ) (answer : RunRead) (out : List ℕ) : Type 0 where
+  pub answered : answer ≡ readAnswer v n (length d) s
+  pub held : out ≡ readOut answer (levels v s) d
+
 -- "A refusal returns its number and a place", which is 0 for the bare run calls
 abbrev pub readNumber : ReadRefusal → ℕ
 readNumber VOver253 = 12
@@ -46,6 +61,10 @@ checkAnswer v n s =
     cond (ltb 253 v) (K.Refused C.VOver253)
     (cond (ltb 2097152 n) (K.Refused C.TooManyBins)
     (cond (gives v n s) K.Gives (K.Refused C.WrongBins)))
+
+-- the promise of run check
+pub record CheckPromise (v n : ℕ) (s : List ℕ) (answer : RunCheck) : Type 0 where
+  pub answered : answer ≡ checkAnswer v n s
 
 abbrev pub checkNumber : CheckRefusal → ℕ
 checkNumber C.VOver253 = 12

@@ -3,11 +3,11 @@
 // file's data), `stretches` (the list, run by run) and `polar` (the calls of a file) stand above and go by `levels`, `gives` and their laws.
 ghost use mathlib.Core.Bool.{true};
 ghost use mathlib.Core.Path.{_≡_};
-ghost use Prim.Native.Nat.{_≤_, _-_};
+ghost use Prim.Native.Nat.{_≤_, _<_, _-_, min};
 ghost use lib.ListN.{length, replicate};
-ghost use Rattle.runs.specs.Run.{levels, opens, scanned, stepAt};
+ghost use Rattle.runs.specs.Run.{levels, opens, scanned, runLen, runNext, stepAt};
 ghost use Rattle.runs.specs.Lent.{front, placed, between};
-ghost use Rattle.runs.specs.Read.{readAnswer, readOut, checkAnswer};
+ghost use Rattle.runs.specs.Read.{ReadPromise, CheckPromise};
 
 // Whether octets give exactly the bins wanted.
 pub enum Scan {
@@ -106,12 +106,45 @@ pub fn run_at(octets: &[u8], v: u8, at: usize, cap: usize) -> Step
     }
 }
 
-// One level, from lo up to hi.
+// A run that is known to stand at a place: its length, and the place past its digits.
+pub struct Known {
+    pub len: usize,
+    pub next: usize,
+}
+
+// The run at a place, where it is known to be there and to be no longer than the bins of the largest cut: what a scan has shown is not tested again.
+pub fn known_run(octets: &[u8], v: u8, at: usize) -> Known
+    requires { ⌜ (v ≤ 253) × (at < length (now octets)) × (runLen v (now octets) at ≤ 2097152) ⌝ }
+    ensures { λ r. ⌜ (r .len ≡ runLen v (now (octets .entry)) at) × (r .next ≡ runNext v (now (octets .entry)) at) ⌝ }
+{
+    let base = 255 - v as usize;
+    let mut i: usize = at + 1;
+    let mut len: usize = 1;
+    let mut weight: usize = 1;
+    while i < octets.len() {
+        let o = octets[i];
+        if o <= v {
+            break;
+        }
+        len += (o - v - 1) as usize * weight;
+        i += 1;
+        if weight <= 2097152 {
+            weight *= base;
+        }
+    }
+    Known { len, next: i }
+}
+
+// One level, from lo up to hi. The first is stored by itself: most runs of noisy data are one bin, and a loop, which becomes a call, costs more.
 fn stamp(out: &mut [u8], lo: usize, hi: usize, level: u8)
     requires { ⌜ (lo ≤ hi) × (hi ≤ length (now out)) ⌝ }
     ensures { λ _. ⌜ now (out .exit) ≡ placed (now (out .entry)) lo (replicate (hi - lo) level) ⌝ }
 {
-    let mut i = lo;
+    if hi <= lo {
+        return;
+    }
+    out[lo] = level;
+    let mut i = lo + 1;
     while i < hi {
         out[i] = level;
         i += 1;
@@ -125,32 +158,27 @@ fn above(x: usize, y: usize) -> usize
     if y <= x { x - y } else { 0 }
 }
 
+fn lesser(x: usize, y: usize) -> usize
+    ensures { λ r. ⌜ r ≡ min x y ⌝ }
+{
+    if x <= y { x } else { y }
+}
+
 // The bins a up to b of what the octets give, at the front of out. Octets past the run that reaches b are not looked at.
 pub fn fill(octets: &[u8], v: u8, a: usize, b: usize, out: &mut [u8])
-    requires { ⌜ (v ≤ 253) × (opens v (now octets) ≡ true) × (b ≤ 4294967295) ⌝ }
+    requires { ⌜ (v ≤ 253) × (opens v (now octets) ≡ true) × (length (levels v (now octets)) ≤ 2097152) ⌝ }
     requires { ⌜ (a ≤ b) × (b ≤ length (levels v (now octets))) × (b - a ≤ length (now out)) ⌝ }
     ensures { λ _. ⌜ now (out .exit) ≡ front (between a b (levels v (now (octets .entry)))) (now (out .entry)) ⌝ }
 {
     let mut at: usize = 0;
     let mut bins: usize = 0;
     while bins < b {
-        let step = run_at(octets, v, at, b - bins);
-        match step {
-            Step::Run { level, len, next } => {
-                let end = bins + len;
-                stamp(out, above(bins, a), above(end, a), level);
-                bins = end;
-                at = next;
-            }
-            Step::Over => {
-                let level = octets[at];
-                stamp(out, above(bins, a), b - a, level);
-                return;
-            }
-            Step::Above | Step::End => {
-                return;
-            }
-        }
+        let level = octets[at];
+        let run = known_run(octets, v, at);
+        let end = bins + run.len;
+        stamp(out, above(bins, a), above(lesser(end, b), a), level);
+        bins = end;
+        at = run.next;
     }
 }
 
@@ -170,8 +198,7 @@ pub enum RunRead {
 
 // Run read: the n levels that the octets give under V, at the front of out.
 pub fn run_read(octets: &[u8], v: u8, n: usize, out: &mut [u8]) -> RunRead
-    ensures { λ r. ⌜ r ≡ readAnswer v n (length (now (out .entry))) (now (octets .entry)) ⌝ }
-    ensures { λ r. ⌜ now (out .exit) ≡ readOut r (levels v (now (octets .entry))) (now (out .entry)) ⌝ }
+    ensures { λ r. ⌜ ReadPromise v n (now (octets .entry)) (now (out .entry)) r (now (out .exit)) ⌝ }
 {
     if 253 < v {
         return RunRead::Refused(ReadRefusal::VOver253);
@@ -205,7 +232,7 @@ pub enum RunCheck {
 
 // Run check: whether octets give exactly n bins under V, as run read would find, with nothing lent.
 pub fn run_check(octets: &[u8], v: u8, n: usize) -> RunCheck
-    ensures { λ r. ⌜ r ≡ checkAnswer v n (now (octets .entry)) ⌝ }
+    ensures { λ r. ⌜ CheckPromise v n (now (octets .entry)) r ⌝ }
 {
     if 253 < v {
         return RunCheck::Refused(CheckRefusal::VOver253);

@@ -45,7 +45,7 @@ published-near p n h k = hundredths-near (published p n) (low (natAbs (published
 
 -- ---- in section 5
 -- sign and magnitude, read back
-signed-back : (z : ℤ) → mag z < 2 ^ 15 → signed 32768 (signMagnitude z) ≡ z
+signed-back : (z : ℤ) → mag z < 2 ^ 15 → signed 2 (signMagnitude z) ≡ z
 unfolding signed signMagnitude
 signed-back (pos n) h = ap (λ (b : Bool). cond b (pos n) (negℤ (pos (n - 32768)))) (lt-ltb n 32768 h)
 signed-back (negsuc k) h =
@@ -76,10 +76,10 @@ pair-number zs i h =
     omega (arith, be-split (octetsOf zs) (2 * i) 1 1, be-one (octetsOf zs) (2 * i), be-one (octetsOf zs) (2 * i + 1))
 
 -- level n's value stands at places 2(n - 1) and 2(n - 1) + 1 of the table, octets 16+2n and 17+2n of section 5
-pub table-reads : (p : Product) (n : ℕ) → 1 ≤ n → n ≤ levelCount p → signed 32768 (be (tableOctets p) (2 * (n - 1)) 2) ≡ published p n
+pub table-reads : (p : Product) (n : ℕ) → 1 ≤ n → n ≤ levelCount p → signed 2 (be (tableOctets p) (2 * (n - 1)) 2) ≡ published p n
 unfolding tableOctets
 table-reads p n h k =
-    ap (signed 32768) (pair-number (tableOf p) (n - 1) (inside n (levelCount p) (length (tableOf p)) (table-length p) h k) ∙ ap signMagnitude (table-at p n h k))
+    ap (signed 2) (pair-number (tableOf p) (n - 1) (inside n (levelCount p) (length (tableOf p)) (table-length p) h k) ∙ ap signMagnitude (table-at p n h k))
     ∙ signed-back (published p n) (published-small p n h k)
   where
     inside : (n m l : ℕ) → l ≡ m → 1 ≤ n → n ≤ m → n - 1 < l

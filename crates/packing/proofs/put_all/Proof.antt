@@ -1,7 +1,7 @@
 -- `put_all` meets its contract: what is in front, and what is left to write.
 use Prim.Native.Nat.{ℕ, _+_, _-_, _≤_, _<_}
 use mathlib.Core.Path.{_≡_, refl, sym, ap, _∙_}
-use mathlib.Core.List.{List, []}
+use mathlib.Core.List.{List, _++_, []}
 use native.Mathlib.Omega.{arith}
 use lib.ListN.{length, take, drop}
 use borrow.Author.Needs.{needs}
@@ -30,7 +30,9 @@ size c =
 
 returns : tie.Need-returns Inv-loop μ-loop
 returns c =
-    ap (λ (l : List ℕ). front l (c .before .before .before .args .out .now)) (sym (written-empty (c .before .before .before .args .v) (c .before .before .before .args .levels .now) (c .if1 .taken)))
+    let a = c .before .before .before .args in
+    let none = sym (written-empty (a .v) (a .levels .now) (c .if1 .taken)) in
+    (ap length none, ap (λ (l : List ℕ). front l (a .out .now)) none)
 
 shared-slice-read-x : tie.Need-shared-slice-read-x Inv-loop μ-loop
 shared-slice-read-x c = search needs
@@ -62,7 +64,8 @@ put-run-requires : tie.Need-put-run-requires Inv-loop μ-loop
 put-run-requires c κs =
     let a = c .before .before .before .before .before .before .before .before .before .args in
     let l = c .before .before .before .before .loop in
-    (omega arith, omega arith, omega (arith, size (c .before .before .before .before), next-fits (written (a .v) (a .levels .now)) (l .at) (code (a .v) (l .x) (l .k)) _ (l .inv .3 ∙ on-other (a .v) (l .x) (l .k) (a .levels .now) (l .i) (omega arith) (c .before .if2 .left)) (l .inv .2)))
+    let next = l .inv .3 ∙ on-other (a .v) (l .x) (l .k) (a .levels .now) (l .i) (omega arith) (c .before .if2 .left) in
+    (omega arith, omega arith, omega (arith, size (c .before .before .before .before), next-fits (written (a .v) (a .levels .now)) (l .at) (code (a .v) (l .x) (l .k)) _ next (l .inv .2)))
 
 loop-less-2 : tie.Need-loop-less-2 Inv-loop μ-loop
 loop-less-2 c = search needs
@@ -71,19 +74,29 @@ loop-again-2 : tie.Need-loop-again-2 Inv-loop μ-loop
 loop-again-2 c =
     let a = c .before .before .before .before .before .before .before .before .before .before .before .before .args in
     let l = c .before .before .before .before .before .before .before .loop in
-    let e = c .before .before .put-run .ensures in (
+    let e = c .before .before .put-run .ensures in
+    let W = written (a .v) (a .levels .now) in
+    let p = code (a .v) (l .x) (l .k) in
+    let next = l .inv .3 ∙ on-other (a .v) (l .x) (l .k) (a .levels .now) (l .i) (omega arith) (c .before .before .before .before .if2 .left) in (
       omega arith,
       omega arith,
-      omega (arith, e .0, next-fits (written (a .v) (a .levels .now)) (l .at) (code (a .v) (l .x) (l .k)) _ (l .inv .3 ∙ on-other (a .v) (l .x) (l .k) (a .levels .now) (l .i) (omega arith) (c .before .before .before .before .if2 .left)) (l .inv .2)),
-      ap (λ (n : ℕ). drop n (written (a .v) (a .levels .now))) (e .0) ∙ next-drop (written (a .v) (a .levels .now)) (l .at) (code (a .v) (l .x) (l .k)) _ (l .inv .3 ∙ on-other (a .v) (l .x) (l .k) (a .levels .now) (l .i) (omega arith) (c .before .before .before .before .if2 .left)) (l .inv .2),
-      e .1 ∙ ap (λ (d : List ℕ). placed d (l .at) (code (a .v) (l .x) (l .k))) (l .inv .4) ∙ run-put (written (a .v) (a .levels .now)) (a .out .now) (l .at) (code (a .v) (l .x) (l .k)) _ (l .inv .3 ∙ on-other (a .v) (l .x) (l .k) (a .levels .now) (l .i) (omega arith) (c .before .before .before .before .if2 .left)) (l .inv .2) ∙ ap (λ (n : ℕ). front (take n (written (a .v) (a .levels .now))) (a .out .now)) (sym (e .0)),
+      omega (arith, e .0, next-fits W (l .at) p _ next (l .inv .2)),
+      ap (λ (n : ℕ). drop n W) (e .0) ∙ next-drop W (l .at) p _ next (l .inv .2),
+      e .1 ∙ ap (λ (d : List ℕ). placed d (l .at) p) (l .inv .4) ∙ run-put W (a .out .now) (l .at) p _ next (l .inv .2) ∙ ap (λ (n : ℕ). front (take n W) (a .out .now)) (sym (e .0)),
     )
+
+-- at the end, what is left is the run in hand
+last : (c : tie.After-loop Inv-loop μ-loop) → drop (c .before .loop .at) (written (c .before .before .before .before .before .before .args .v) (c .before .before .before .before .before .before .args .levels .now)) ≡ code (c .before .before .before .before .before .before .args .v) (c .before .loop .x) (c .before .loop .k) ++ []
+last c =
+    let a = c .before .before .before .before .before .before .args in
+    let l = c .before .loop in
+    l .inv .3 ∙ on-end (a .v) (l .x) (l .k) (a .levels .now) (l .i) (omega arith) ∙ sym (append-nil (code (a .v) (l .x) (l .k)))
 
 put-run-requires-2 : tie.Need-put-run-requires-2 Inv-loop μ-loop
 put-run-requires-2 c κs =
     let a = c .before .before .before .before .before .before .before .args in
     let l = c .before .before .loop in
-    (omega arith, omega arith, omega (arith, size (c .before .before), next-fits (written (a .v) (a .levels .now)) (l .at) (code (a .v) (l .x) (l .k)) [] (l .inv .3 ∙ on-end (a .v) (l .x) (l .k) (a .levels .now) (l .i) (omega arith) ∙ sym (append-nil (code (a .v) (l .x) (l .k)))) (l .inv .2)))
+    (omega arith, omega arith, omega (arith, size (c .before .before), next-fits (written (a .v) (a .levels .now)) (l .at) (code (a .v) (l .x) (l .k)) [] (last (c .before)) (l .inv .2)))
 
 same-length : tie.Need-same-length Inv-loop μ-loop
 same-length c =
@@ -94,8 +107,14 @@ returns-2 c =
     let a = c .before .before .before .before .before .before .before .before .before .before .args in
     let l = c .before .before .before .before .before .loop in
     let e = c .before .before .put-run2 .ensures in
-    let all : take (l .at + length (code (a .v) (l .x) (l .k))) (written (a .v) (a .levels .now)) ≡ (written (a .v) (a .levels .now)) = take-all (l .at + length (code (a .v) (l .x) (l .k))) (written (a .v) (a .levels .now)) (omega (arith, simp length-drop at (ap length (next-drop (written (a .v) (a .levels .now)) (l .at) (code (a .v) (l .x) (l .k)) [] (l .inv .3 ∙ on-end (a .v) (l .x) (l .k) (a .levels .now) (l .i) (omega arith) ∙ sym (append-nil (code (a .v) (l .x) (l .k)))) (l .inv .2))))) in
-    e .1 ∙ ap (λ (d : List ℕ). placed d (l .at) (code (a .v) (l .x) (l .k))) (l .inv .4) ∙ run-put (written (a .v) (a .levels .now)) (a .out .now) (l .at) (code (a .v) (l .x) (l .k)) [] (l .inv .3 ∙ on-end (a .v) (l .x) (l .k) (a .levels .now) (l .i) (omega arith) ∙ sym (append-nil (code (a .v) (l .x) (l .k)))) (l .inv .2) ∙ ap (λ (p : List ℕ). front p (a .out .now)) all
+    let W = written (a .v) (a .levels .now) in
+    let p = code (a .v) (l .x) (l .k) in
+    let next = last (c .before .before .before .before) in
+    let none = simp length-drop at (ap length (next-drop W (l .at) p [] next (l .inv .2))) in
+    let size = next-fits W (l .at) p [] next (l .inv .2) in (
+      omega (arith, e .0),
+      e .1 ∙ ap (λ (d : List ℕ). placed d (l .at) p) (l .inv .4) ∙ run-put W (a .out .now) (l .at) p [] next (l .inv .2) ∙ ap (λ (q : List ℕ). front q (a .out .now)) (take-all (l .at + length p) W (omega arith)),
+    )
 
 pub put-all-spec : {M : Type 1} → statement M
 put-all-spec =

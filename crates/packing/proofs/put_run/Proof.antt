@@ -9,8 +9,8 @@ use lib.ListN.{set, length-set, length-drop}
 use Rattle.packing.specs.Write.{code, digitsOf}
 use Rattle.runs.specs.Lent.{placed}
 use Rattle.packing.proofs.Digits.{octetsOf, code-is, octets-none, octets-more, code-length}
-use Rattle.packing.proofs.Placing.{placed-set, first-put, one-fits, one-left, one-put}
-use Rattle.runs.proofs.Lent.{length-placed}
+use Rattle.packing.proofs.Placing.{one-fits, one-left, one-put}
+use Rattle.runs.proofs.Lent.{length-placed, placed-set, first-put}
 use lib.Seq.{length-take-le, take-all}
 use native.Mathlib.Nat.{mod-lt, div-lt-self}
 use Rattle.packing.proofs.put_run.Statement.{statement}

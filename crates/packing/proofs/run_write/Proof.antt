@@ -1,64 +1,66 @@
--- `run_write` meets its contract: the tests in order, then the writing.
+-- `run_write` meets its contract: the tests in document 01's order, then the writing.
 use Prim.Native.Nat.{ℕ, _≤_, _<_}
-use mathlib.Core.Path.{refl, ap, _∙_}
+use mathlib.Core.Path.{_≡_, refl, sym, ap, _∙_}
+use mathlib.Core.Bool.{true, false}
 use native.Mathlib.Omega.{arith}
 use lib.ListN.{length}
-use borrow.Author.Needs.{needs}
-use borrow.Author.Tests.{lt-ltb, le-ltb}
+use lib.Dec.{leb}
+use borrow.Author.Tests.{lt-ltb, le-ltb, leb-true, leb-false, not-true, not-false}
 use Rattle.runs.specs.Lent.{front}
-use Rattle.packing.specs.declared.RunWrite.the-variants.{Wrote}
 use Rattle.packing.specs.Write.{greatest, written, writeAnswer}
+use Rattle.packing.specs.declared.RunWrite.the-variants.{Wrote}
+use borrow.Author.Needs.{needs}
 use Rattle.packing.proofs.run_write.Statement.{statement}
 use Rattle.packing.proofs.run_write.Tie as tie
 
 returns : tie.Need-returns
 unfolding writeAnswer
-returns c =
-    (simp (lt-ltb _ _ (c .if1 .taken)), refl)
+returns c = record { answered = simp (lt-ltb _ _ (c .if1 .taken)); held = refl }
 
 greatest-of-requires : tie.Need-greatest-of-requires
 greatest-of-requires c κs = search needs
 
 returns-2 : tie.Need-returns-2
 unfolding writeAnswer
-returns-2 c =
-    let levels = c .before .before .before .before .before .args .levels .now in
+returns-2 c = let levels = c .before .before .before .before .before .args .levels .now in
     let high : 252 < greatest levels = omega (arith, c .before .greatest-of .ensures) in
-    (simp (le-ltb _ _ (c .before .before .if1 .left), lt-ltb _ _ high), refl)
+    record { answered = simp (le-ltb _ _ (c .before .before .if1 .left), lt-ltb _ _ high); held = refl }
 
-measure-requires : tie.Need-measure-requires
-measure-requires c κs = search needs
+has-room-requires : tie.Need-has-room-requires
+has-room-requires c κs = search needs
 
 returns-3 : tie.Need-returns-3
 unfolding writeAnswer
-returns-3 c =
-    let levels = c .before .before .before .before .before .before .before .args .levels .now in
+returns-3 c = let levels = c .before .before .before .before .before .before .before .args .levels .now in
     let room = length (c .before .before .before .before .before .before .before .args .out .now) in
     let v = c .before .before .before .greatest-of .ensures in
-    let n = c .before .measure .ensures ∙ ap (λ (x : ℕ). length (written x levels)) v in
-    let fits : greatest levels ≤ 252 = omega (arith, v) in
-    let short : room < length (written (greatest levels) levels) = omega (arith, n) in
-    (simp (le-ltb _ _ (c .before .before .before .before .if1 .left), le-ltb _ _ fits, lt-ltb _ _ short), refl)
+    let low : greatest levels ≤ 252 = omega (arith, v) in
+    let no : leb (length (written (greatest levels) levels)) room ≡ false =
+    ap (λ (x : ℕ). leb (length (written x levels)) room) (sym v) ∙ sym (c .before .has-room .ensures) ∙ not-true _ (c .if3 .taken) in
+    let short : room < length (written (greatest levels) levels) = leb-false _ _ no in
+    record { answered = simp (le-ltb _ _ (c .before .before .before .before .if1 .left), le-ltb _ _ low, lt-ltb _ _ short); held = refl }
 
 put-all-requires : tie.Need-put-all-requires
-put-all-requires c κs =
-    (omega arith, omega arith, omega (arith, c .before .before .measure .ensures))
+put-all-requires c κs = (omega arith, omega arith, leb-true _ _ (sym (c .before .before .has-room .ensures) ∙ not-false _ (c .before .if3 .left)))
 
 same-length : tie.Need-same-length
 same-length c = search needs
 
 returns-4 : tie.Need-returns-4
 unfolding writeAnswer
-returns-4 c =
-    let levels = c .before .before .before .before .before .before .before .before .before .before .before .args .levels .now in
+returns-4 c = let levels = c .before .before .before .before .before .before .before .before .before .before .before .args .levels .now in
     let room = length (c .before .before .before .before .before .before .before .before .before .before .before .args .out .now) in
     let v = c .before .before .before .before .before .before .before .greatest-of .ensures in
-    let n = c .before .before .before .before .before .measure .ensures ∙ ap (λ (x : ℕ). length (written x levels)) v in
-    let fits : greatest levels ≤ 252 = omega (arith, v) in
-    let enough : length (written (greatest levels) levels) ≤ room = omega (arith, n, c .before .before .before .before .if3 .left) in (
-      simp (le-ltb _ _ (c .before .before .before .before .before .before .before .before .if1 .left), le-ltb _ _ fits, le-ltb _ _ enough) (λ i. Wrote (v i) (n i)),
-      c .before .before .put-all .ensures ∙ ap (λ (x : ℕ). front (written x levels) (c .before .before .before .before .before .before .before .before .before .before .before .args .out .now)) v,
-    )
+    let e = c .before .before .put-all .ensures in
+    let n = e .0 ∙ ap (λ (x : ℕ). length (written x levels)) v in
+    let low : greatest levels ≤ 252 = omega (arith, v) in
+    let yes : leb (length (written (greatest levels) levels)) room ≡ true =
+    ap (λ (x : ℕ). leb (length (written x levels)) room) (sym v) ∙ sym (c .before .before .before .before .before .has-room .ensures) ∙ not-false _ (c .before .before .before .before .if3 .left) in
+    let enough : length (written (greatest levels) levels) ≤ room = leb-true _ _ yes in
+    record {
+      answered = simp (le-ltb _ _ (c .before .before .before .before .before .before .before .before .if1 .left), le-ltb _ _ low, le-ltb _ _ enough) (λ i. Wrote (v i) (n i));
+      held = e .1 ∙ ap (λ (x : ℕ). front (written x levels) (c .before .before .before .before .before .before .before .before .before .before .before .args .out .now)) v;
+    }
 
 pub run-write-spec : {M : Type 1} → statement M
 run-write-spec =
@@ -67,7 +69,7 @@ run-write-spec =
     returns
     greatest-of-requires
     returns-2
-    measure-requires
+    has-room-requires
     returns-3
     put-all-requires
     same-length

@@ -17,10 +17,10 @@ check-number-requires : tie.Need-check-number-requires
 check-number-requires c κs = search needs
 
 returns : tie.Need-returns
-returns c = rw (sym (c .before .before .run-check .ensures) ∙ c .enum-told .given .1)
+returns c = record { returned = rw (sym (c .before .before .run-check .ensures .answered) ∙ c .enum-told .given .1) }
 
 returns-2 : tie.Need-returns-2
-returns-2 c = rw (sym (c .before .before .before .before .run-check .ensures) ∙ c .before .before .why .given .1) (c .check-number .ensures)
+returns-2 c = record { returned = rw (sym (c .before .before .before .before .run-check .ensures .answered) ∙ c .before .before .why .given .1) (c .check-number .ensures) }
 
 pub polar-run-check-spec : {M : Type 1} → statement M
 polar-run-check-spec =

@@ -34,16 +34,25 @@ same-length : tie.Need-same-length
 same-length c = search needs
 
 returns : tie.Need-returns
-returns c = let a = c .before .before .before .before .before .before .before .before .args in
-    rw (sym (c .before .before .before .before .run-read .ensures .0) ∙ c .enum-told .given .1) (refl, (c .before .before .before .before .run-read .ensures .1 ∙ ap (λ (r : RunRead). readOut r (levels (a .v) (a .octets .now)) (a .out .now)) (c .enum-told .given .1), refl))
+returns c =
+    let a = c .before .before .before .before .before .before .before .before .args in
+    let p = c .before .before .before .before .run-read .ensures in
+    let r = sym (p .answered) ∙ c .enum-told .given .1 in
+    record { returned = rw r refl; held = p .held ∙ ap (λ (x : RunRead). readOut x (levels (a .v) (a .octets .now)) (a .out .now)) (p .answered); told = rw r refl }
 
 same-length-2 : tie.Need-same-length-2
 same-length-2 c = search needs
 
 returns-2 : tie.Need-returns-2
-returns-2 c = let a = c .before .before .before .before .before .before .before .before .before .before .before .args in
-    let p = c .before .read-place .ensures in
-    rw (sym (c .before .before .before .before .before .before .before .run-read .ensures .0) ∙ c .before .before .before .why .given .1) (c .read-number .ensures, (c .before .before .before .before .before .before .before .run-read .ensures .1 ∙ ap (λ (r : RunRead). readOut r (levels (a .v) (a .octets .now)) (a .out .now)) (c .before .before .before .why .given .1), ap (λ (x : ℕ). set (a .place .now) 0 x) p))
+returns-2 c =
+    let a = c .before .before .before .before .before .before .before .before .before .before .before .args in
+    let p = c .before .before .before .before .before .before .before .run-read .ensures in
+    let r = sym (p .answered) ∙ c .before .before .before .why .given .1 in
+    record {
+      returned = rw r (c .read-number .ensures);
+      held = p .held ∙ ap (λ (x : RunRead). readOut x (levels (a .v) (a .octets .now)) (a .out .now)) (p .answered);
+      told = rw r (ap (λ (x : ℕ). set (a .place .now) 0 x) (c .before .read-place .ensures));
+    }
 
 pub polar-run-read-spec : {M : Type 1} → statement M
 polar-run-read-spec =

@@ -42,16 +42,25 @@ same-length : tie.Need-same-length
 same-length c = search needs
 
 returns : tie.Need-returns
-returns c = let a = c .before .before .before .before .before .before .before .before .before .args in
-    rw (sym (c .before .before .before .before .before .run-write .ensures .0) ∙ c .before .v .given .1) (refl, (c .before .before .before .before .before .run-write .ensures .1 ∙ ap (λ (r : RunWrite). writeOut r (packed (a .levels .now)) (a .out .now)) (c .before .v .given .1), refl))
+returns c =
+    let a = c .before .before .before .before .before .before .before .before .before .args in
+    let p = c .before .before .before .before .before .run-write .ensures in
+    let r = sym (p .answered) ∙ c .before .v .given .1 in
+    record { returned = rw r refl; held = p .held ∙ ap (λ (x : RunWrite). writeOut x (packed (a .levels .now)) (a .out .now)) (p .answered); told = rw r refl }
 
 same-length-2 : tie.Need-same-length-2
 same-length-2 c = search needs
 
 returns-2 : tie.Need-returns-2
-returns-2 c = let a = c .before .before .before .before .before .before .before .before .before .before .before .args in
-    let p = c .before .write-place .ensures in
-    rw (sym (c .before .before .before .before .before .before .before .run-write .ensures .0) ∙ c .before .before .before .why .given .1) (c .write-number .ensures, (c .before .before .before .before .before .before .before .run-write .ensures .1 ∙ ap (λ (r : RunWrite). writeOut r (packed (a .levels .now)) (a .out .now)) (c .before .before .before .why .given .1), ap (λ (x : ℕ). set (a .answer .now) 0 x) p))
+returns-2 c =
+    let a = c .before .before .before .before .before .before .before .before .before .before .before .args in
+    let p = c .before .before .before .before .before .before .before .run-write .ensures in
+    let r = sym (p .answered) ∙ c .before .before .before .why .given .1 in
+    record {
+      returned = rw r (c .write-number .ensures);
+      held = p .held ∙ ap (λ (x : RunWrite). writeOut x (packed (a .levels .now)) (a .out .now)) (p .answered);
+      told = rw r (ap (λ (x : ℕ). set (a .answer .now) 0 x) (c .before .write-place .ensures));
+    }
 
 pub polar-run-write-spec : {M : Type 1} → statement M
 polar-run-write-spec =

@@ -10,11 +10,11 @@ use Rattle.runs.proofs.run_check.Tie as tie
 
 returns : tie.Need-returns
 unfolding checkAnswer
-returns c = simp (lt-ltb _ _ (c .if1 .taken))
+returns c = record { answered = simp (lt-ltb _ _ (c .if1 .taken)) }
 
 returns-2 : tie.Need-returns-2
 unfolding checkAnswer
-returns-2 c = simp (lt-ltb _ _ (c .if2 .taken), le-ltb _ _ (c .before .if1 .left))
+returns-2 c = record { answered = simp (lt-ltb _ _ (c .if2 .taken), le-ltb _ _ (c .before .if1 .left)) }
 
 scan-runs-requires : tie.Need-scan-runs-requires
 scan-runs-requires c κs = search needs
@@ -29,13 +29,13 @@ returns-3 : tie.Need-returns-3
 unfolding checkAnswer
 returns-3 c = let a = c .before .before .before .before .before .before .args in
     let no = missed (gives (a .v) (a .n) (a .octets .now)) (sym (c .enum-told2 .given .1) ∙ c .before .before .scan-runs .ensures) in
-    simp (le-ltb _ _ (c .before .before .before .if2 .left), le-ltb _ _ (c .before .before .before .before .if1 .left), no)
+    record { answered = simp (le-ltb _ _ (c .before .before .before .if2 .left), le-ltb _ _ (c .before .before .before .before .if1 .left), no) }
 
 returns-4 : tie.Need-returns-4
 unfolding checkAnswer
 returns-4 c = let a = c .before .before .before .before .before .before .args in
     let yes = told (gives (a .v) (a .n) (a .octets .now)) (sym (c .enum-told .given .1) ∙ c .before .before .scan-runs .ensures) in
-    simp (le-ltb _ _ (c .before .before .before .if2 .left), le-ltb _ _ (c .before .before .before .before .if1 .left), yes)
+    record { answered = simp (le-ltb _ _ (c .before .before .before .if2 .left), le-ltb _ _ (c .before .before .before .before .if1 .left), yes) }
 
 pub run-check-spec : {M : Type 1} → statement M
 run-check-spec =

@@ -16,15 +16,15 @@ use Rattle.runs.proofs.run_read.Tie as tie
 
 returns : tie.Need-returns
 unfolding readAnswer
-returns c = (simp (lt-ltb _ _ (c .if1 .taken)), refl)
+returns c = record { answered = simp (lt-ltb _ _ (c .if1 .taken)); held = refl }
 
 returns-2 : tie.Need-returns-2
 unfolding readAnswer
-returns-2 c = (simp (lt-ltb _ _ (c .if2 .taken), le-ltb _ _ (c .before .if1 .left)), refl)
+returns-2 c = record { answered = simp (lt-ltb _ _ (c .if2 .taken), le-ltb _ _ (c .before .if1 .left)); held = refl }
 
 returns-3 : tie.Need-returns-3
 unfolding readAnswer
-returns-3 c = (simp (lt-ltb _ _ (c .if3 .taken), le-ltb _ _ (c .before .if2 .left), le-ltb _ _ (c .before .before .if1 .left)), refl)
+returns-3 c = record { answered = simp (lt-ltb _ _ (c .if3 .taken), le-ltb _ _ (c .before .if2 .left), le-ltb _ _ (c .before .before .if1 .left)); held = refl }
 
 scan-runs-requires : tie.Need-scan-runs-requires
 scan-runs-requires c κs = search needs
@@ -39,7 +39,7 @@ returns-4 : tie.Need-returns-4
 unfolding readAnswer
 returns-4 c = let a = c .before .before .before .before .before .before .before .before .args in
     let no = missed (gives (a .v) (a .n) (a .octets .now)) (sym (c .enum-told2 .given .1) ∙ c .before .before .scan-runs .ensures) in
-    (simp (le-ltb _ _ (c .before .before .before .if3 .left), le-ltb _ _ (c .before .before .before .before .if2 .left), le-ltb _ _ (c .before .before .before .before .before .if1 .left), no), refl)
+    record { answered = simp (le-ltb _ _ (c .before .before .before .if3 .left), le-ltb _ _ (c .before .before .before .before .if2 .left), le-ltb _ _ (c .before .before .before .before .before .if1 .left), no); held = refl }
 
 -- the octets give n bins
 exact : (c : tie.After-enum-told) → gives (c .before .before .before .before .before .before .before .before .args .v) (c .before .before .before .before .before .before .before .before .args .n) (c .before .before .before .before .before .before .before .before .args .octets .now) ≡ true
@@ -57,10 +57,11 @@ returns-5 : tie.Need-returns-5
 unfolding readAnswer
 returns-5 c = let a = c .before .before .before .before .before .before .before .before .before .before .before .before .args in
     let yes = exact (c .before .before .before .before) in
-    let g = gives-true (a .v) (a .n) (a .octets .now) yes in (
-      simp (le-ltb _ _ (c .before .before .before .before .before .before .before .if3 .left), le-ltb _ _ (c .before .before .before .before .before .before .before .before .if2 .left), le-ltb _ _ (c .before .before .before .before .before .before .before .before .before .if1 .left), yes),
-      c .before .before .fill .ensures ∙ ap (λ (l : List ℕ). front l (a .out .now)) (take-all (a .n - 0) (levels (a .v) (a .octets .now)) (omega (arith, g .1))),
-    )
+    let g = gives-true (a .v) (a .n) (a .octets .now) yes in
+    record {
+      answered = simp (le-ltb _ _ (c .before .before .before .before .before .before .before .if3 .left), le-ltb _ _ (c .before .before .before .before .before .before .before .before .if2 .left), le-ltb _ _ (c .before .before .before .before .before .before .before .before .before .if1 .left), yes);
+      held = c .before .before .fill .ensures ∙ ap (λ (l : List ℕ). front l (a .out .now)) (take-all (a .n - 0) (levels (a .v) (a .octets .now)) (omega (arith, g .1)));
+    }
 
 pub run-read-spec : {M : Type 1} → statement M
 run-read-spec =

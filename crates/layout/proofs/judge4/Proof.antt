@@ -1,0 +1,66 @@
+use Rattle.rules.specs.Fields.{lengthAt, raysAt, parameterAt, siteAt}
+use borrow.Author.Needs.{needs}
+use Rattle.layout.proofs.judge4.Statement.{statement}
+use Rattle.layout.proofs.judge4.Tie as tie
+
+field32-requires : tie.Need-field32-requires
+field32-requires c κs = search needs
+
+wide-requires : tie.Need-wide-requires
+wide-requires c κs = search needs
+
+field32-requires-2 : tie.Need-field32-requires-2
+field32-requires-2 c κs = search needs
+
+wide-requires-2 : tie.Need-wide-requires-2
+wide-requires-2 c κs = search needs
+
+mul-due : tie.Need-mul-due
+mul-due c = search needs
+
+add-due : tie.Need-add-due
+add-due c = search needs
+
+first-in-requires : tie.Need-first-in-requires
+first-in-requires c κs = search needs
+
+field8-requires : tie.Need-field8-requires
+field8-requires c κs = search needs
+
+field16-requires : tie.Need-field16-requires
+field16-requires c κs = search needs
+
+fields4-requires : tie.Need-fields4-requires
+fields4-requires c κs = search needs
+
+fine-requires : tie.Need-fine-requires
+fine-requires c κs = search needs
+
+unless-requires : tie.Need-unless-requires
+unless-requires c κs = search needs
+
+unless-requires-2 : tie.Need-unless-requires-2
+unless-requires-2 c κs = search needs
+
+returns : tie.Need-returns
+unfolding lengthAt raysAt parameterAt siteAt
+returns c = cc
+
+pub judge4-spec : {M : Type 1} → statement M
+judge4-spec =
+    tie.close
+    (tie.spec
+    field32-requires
+    wide-requires
+    field32-requires-2
+    wide-requires-2
+    mul-due
+    add-due
+    first-in-requires
+    field8-requires
+    field16-requires
+    fields4-requires
+    fine-requires
+    unless-requires
+    unless-requires-2
+    returns)

@@ -1,0 +1,68 @@
+use Rattle.values.proofs.Listed.{count-le}
+use Rattle.rules.specs.Fields.{parameterAt}
+use native.Mathlib.Omega.{arith}
+use borrow.Author.Needs.{needs}
+use Rattle.layout.proofs.judge5_fields.Statement.{statement}
+use Rattle.layout.proofs.judge5_fields.Tie as tie
+
+field8-requires : tie.Need-field8-requires
+field8-requires c κs = search needs
+
+product-of-requires : tie.Need-product-of-requires
+product-of-requires c κs = search needs
+
+field32-requires : tie.Need-field32-requires
+field32-requires c κs = search needs
+
+wide-requires : tie.Need-wide-requires
+wide-requires c κs = search needs
+
+points-at-requires : tie.Need-points-at-requires
+points-at-requires c κs = search needs
+
+level-count-requires : tie.Need-level-count-requires
+level-count-requires c κs = search needs
+
+cast-m : tie.Need-cast-m
+cast-m c = record { fits = omega (arith, c .level-count .ensures, count-le (c .before .before .before .before .product-of .result)) }
+
+table-at-requires : tie.Need-table-at-requires
+table-at-requires c κs = search needs
+
+fields5-requires : tie.Need-fields5-requires
+fields5-requires c κs = search needs
+
+fine-requires : tie.Need-fine-requires
+fine-requires c κs = search needs
+
+unless-requires : tie.Need-unless-requires
+unless-requires c κs = search needs
+
+unless-requires-2 : tie.Need-unless-requires-2
+unless-requires-2 c κs = search needs
+
+unless-requires-3 : tie.Need-unless-requires-3
+unless-requires-3 c κs = search needs
+
+returns : tie.Need-returns
+unfolding parameterAt
+returns c = cc
+
+pub judge5-fields-spec : {M : Type 1} → statement M
+judge5-fields-spec =
+    tie.close
+    (tie.spec
+    field8-requires
+    product-of-requires
+    field32-requires
+    wide-requires
+    points-at-requires
+    level-count-requires
+    cast-m
+    table-at-requires
+    fields5-requires
+    fine-requires
+    unless-requires
+    unless-requires-2
+    unless-requires-3
+    returns)

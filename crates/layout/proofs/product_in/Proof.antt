@@ -1,0 +1,26 @@
+use Rattle.layout.specs.Parts.{productOf, productIn}
+use Rattle.rules.specs.Fields.{parameterAt}
+use mathlib.Core.Path.{_∙_, ap}
+use borrow.Author.Needs.{needs}
+use Rattle.layout.proofs.product_in.Statement.{statement}
+use Rattle.layout.proofs.product_in.Tie as tie
+use Rattle.layout.proofs.product_in.Reads as reads
+use Rattle.layout.proofs.product_in.Lts as lts
+use Rattle.layout.proofs.product_of.Reads as product-of-reads
+use Rattle.rules.proofs.field8.Reads as field8-reads
+
+-- src/lib.rt:141:16
+field8-requires : tie.Need-field8-requires
+field8-requires c κs = search needs
+
+-- src/lib.rt:141:5
+product-of-requires : tie.Need-product-of-requires
+product-of-requires c κs = search needs
+
+-- src/lib.rt:138:1
+returns : tie.Need-returns
+unfolding productIn parameterAt
+returns c = c .product-of .ensures ∙ ap productOf (c .before .field8 .ensures)
+
+pub product-in-spec : {M : Type 1} → statement M
+product-in-spec = tie.close (tie.spec field8-requires product-of-requires returns)

@@ -1,0 +1,23 @@
+-- What an accepted file says of each of its cuts: the facts that a call goes by once `walk` has accepted. (Proved in proofs/GoodCuts.antt.)
+use Prim.Native.Nat.{ℕ, _+_, _*_, _≤_}
+use mathlib.Core.Path.{_≡_}
+use mathlib.Core.List.{List}
+use mathlib.Core.Bool.{true}
+use lib.ListN.{length}
+use Rattle.rules.specs.Fields.{lengthAt}
+use Rattle.runs.specs.Run.{gives}
+use Rattle.values.specs.Published.{levelCount}
+use Rattle.layout.specs.Parts.{dataAt, productIn, binsIn, raysIn, greatestIn}
+use Rattle.layout.specs.declared.Cut.{Cut}
+
+pub record GoodCut (s : List ℕ) (c : Cut) : Type 0 where
+  pub bins-some : 1 ≤ binsIn s c
+  pub bins-few : binsIn s c ≤ 2048
+  pub rays-some : 1 ≤ raysIn s c
+  pub rays-few : raysIn s c ≤ 1024
+  -- V is a level of the product
+  pub greatest-few : greatestIn s c ≤ levelCount (productIn s c)
+  -- the data lies in the file and gives exactly the bins
+  pub data-some : 6 ≤ lengthAt s (c .section7)
+  pub data-inside : c .section7 + lengthAt s (c .section7) ≤ length s
+  pub exact : gives (greatestIn s c) (raysIn s c * binsIn s c) (dataAt s (c .section7)) ≡ true

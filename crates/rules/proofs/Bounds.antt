@@ -1,0 +1,50 @@
+-- What a list of rules that is met says of each field: one law for every list, by the rule's place in it; then the bounds that others go by.
+use Prim.Native.Nat.{ℕ, zero, suc, _≤_, _<_}
+use mathlib.Core.Path.{_≡_}
+use mathlib.Core.List.{List, [], _∷_}
+use mathlib.Core.Bool.{true}
+use native.Mathlib.Omega.{arith}
+use native.Mathlib.Nat.{not-suc-le-zero, le-of-suc-le-suc, mul-le-mul}
+use borrow.Author.Tests.{leb-true}
+use lib.ListN.{length, getD}
+use lib.Dec.{leb}
+use Rattle.rules.specs.Rules.{Rule, within, is, field, meets, meetsAll, rules3, rules4, rules5}
+use Rattle.rules.specs.Fields.{binsAt, raysAt, pointsAt, parameterAt, greatestAt}
+use Rattle.rules.proofs.Chains.{and-true-both}
+
+pub nth-rule : (s : List ℕ) (at : ℕ) (rs : List Rule) (d : Rule) → meetsAll s at rs ≡ true → (i : ℕ) → i < length rs → meets s at (getD rs i d) ≡ true
+unfolding meetsAll
+nth-rule s at [] d h i lt = absurd (not-suc-le-zero lt)
+nth-rule s at (r ∷ rs) d h zero lt = and-true-both (meets s at r) (meetsAll s at rs) h .0
+nth-rule s at (r ∷ rs) d h (suc i) lt =
+    nth-rule s at rs d (and-true-both (meets s at r) (meetsAll s at rs) h .1) i (le-of-suc-le-suc lt)
+
+pub within-is : (s : List ℕ) (at k w lo hi : ℕ) → meets s at (within k w lo hi) ≡ true → (lo ≤ field s at k w) × (field s at k w ≤ hi)
+unfolding meets
+within-is s at k w lo hi h =
+    let e = and-true-both (leb lo (field s at k w)) (leb (field s at k w) hi) h in
+    (leb-true _ _ (e .0), leb-true _ _ (e .1))
+
+module _ (s : List ℕ) (at : ℕ) where
+  -- section 3: Nb from 1 to 2048, Nr from 1 to 1024, and so at most 2,097,152 points
+  pub bins-bound : meetsAll s at rules3 ≡ true → (1 ≤ binsAt s at) × (binsAt s at ≤ 2048)
+  unfolding rules3 binsAt
+  bins-bound h = within-is s at 15 4 1 2048 (nth-rule s at rules3 (is 0 0 0) h 4 (omega arith))
+
+  pub rays-bound : meetsAll s at rules3 ≡ true → (1 ≤ raysAt s at) × (raysAt s at ≤ 1024)
+  unfolding rules3 raysAt
+  rays-bound h = within-is s at 19 4 1 1024 (nth-rule s at rules3 (is 0 0 0) h 5 (omega arith))
+
+  pub points-bound : meetsAll s at rules3 ≡ true → pointsAt s at ≤ 2097152
+  unfolding pointsAt
+  points-bound h = mul-le-mul (bins-bound h .1) (rays-bound h .1)
+
+  -- section 4: parameter 1 or 2
+  pub parameter-bound : (product site : ℕ) → meetsAll s at (rules4 product site) ≡ true → (1 ≤ parameterAt s at) × (parameterAt s at ≤ 2)
+  unfolding rules4 parameterAt
+  parameter-bound product site h = within-is s at 11 1 1 2 (nth-rule s at (rules4 product site) (is 0 0 0) h 3 (omega arith))
+
+  -- section 5 of a product with m levels: V is at most m, and M is m
+  pub greatest-bound : (m : ℕ) → meetsAll s at (rules5 m) ≡ true → greatestAt s at ≤ m
+  unfolding rules5 greatestAt
+  greatest-bound m h = within-is s at 13 2 0 m (nth-rule s at (rules5 m) (is 0 0 0) h 2 (omega arith)) .1

@@ -1,0 +1,36 @@
+use mathlib.Core.Bool.{true}
+use Rattle.rules.specs.Rules.{rules0}
+use borrow.Author.Needs.{needs}
+use mathlib.Core.Path.{_∙_}
+use denote.Ref.{now}
+use lib.ListN.{length}
+use Rattle.rules.proofs.Chains.{both, flat}
+use Rattle.rules.proofs.fields0.Statement.{statement}
+use Rattle.rules.proofs.fields0.Tie as tie
+
+within32-requires : tie.Need-within32-requires
+within32-requires c κs = search needs
+
+within8-requires : tie.Need-within8-requires
+within8-requires c κs = search needs
+
+within8-requires-2 : tie.Need-within8-requires-2
+within8-requires-2 c κs = search needs
+
+within64-requires : tie.Need-within64-requires
+within64-requires c κs = search needs
+
+returns : tie.Need-returns
+unfolding rules0
+returns c =
+    let a = c .before .before .before .before .before .args in
+    (both (both (both (c .before .before .before .within32 .ensures)
+    (c .before .before .within8 .ensures))
+    (c .before .within82 .ensures))
+    (c .within64 .ensures))
+    ∙ flat true (now (a .s)) 0 (rules0 (length (now (a .s))))
+
+pub fields0-spec : {M : Type 1} → statement M
+fields0-spec =
+    tie.close
+    (tie.spec within32-requires within8-requires within8-requires-2 within64-requires returns)

@@ -1,0 +1,45 @@
+use mathlib.Core.Bool.{true}
+use Rattle.rules.specs.Rules.{rules5}
+use borrow.Author.Needs.{needs}
+use mathlib.Core.Path.{_∙_}
+use denote.Ref.{now}
+use Rattle.rules.proofs.Chains.{both, flat}
+use Rattle.rules.proofs.fields5.Statement.{statement}
+use Rattle.rules.proofs.fields5.Tie as tie
+
+within16-requires : tie.Need-within16-requires
+within16-requires c κs = search needs
+
+within8-requires : tie.Need-within8-requires
+within8-requires c κs = search needs
+
+within16-requires-2 : tie.Need-within16-requires-2
+within16-requires-2 c κs = search needs
+
+within16-requires-3 : tie.Need-within16-requires-3
+within16-requires-3 c κs = search needs
+
+within8-requires-2 : tie.Need-within8-requires-2
+within8-requires-2 c κs = search needs
+
+returns : tie.Need-returns
+unfolding rules5
+returns c =
+    let a = c .before .before .before .before .before .before .args in
+    (both (both (both (both (c .before .before .before .before .within16 .ensures)
+    (c .before .before .before .within8 .ensures))
+    (c .before .before .within162 .ensures))
+    (c .before .within163 .ensures))
+    (c .within82 .ensures))
+    ∙ flat true (now (a .s)) (a .at) (rules5 (a .m))
+
+pub fields5-spec : {M : Type 1} → statement M
+fields5-spec =
+    tie.close
+    (tie.spec
+    within16-requires
+    within8-requires
+    within16-requires-2
+    within16-requires-3
+    within8-requires-2
+    returns)

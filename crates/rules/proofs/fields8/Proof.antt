@@ -1,0 +1,21 @@
+use mathlib.Core.Bool.{true}
+use Rattle.rules.specs.Rules.{rules8}
+use borrow.Author.Needs.{needs}
+use mathlib.Core.Path.{_∙_}
+use denote.Ref.{now}
+use Rattle.rules.proofs.Chains.{flat}
+use Rattle.rules.proofs.fields8.Statement.{statement}
+use Rattle.rules.proofs.fields8.Tie as tie
+
+within32-requires : tie.Need-within32-requires
+within32-requires c κs = search needs
+
+returns : tie.Need-returns
+unfolding rules8
+returns c =
+    let a = c .before .before .args in
+    (c .within32 .ensures)
+    ∙ flat true (now (a .s)) (a .at) rules8
+
+pub fields8-spec : {M : Type 1} → statement M
+fields8-spec = tie.close (tie.spec within32-requires returns)

@@ -1,0 +1,100 @@
+-- What the promises of run read and run check say: they answer a reading exactly where the octets decode to the bins wanted, and leave one outcome.
+use Prim.Native.Nat.{ℕ, _≤_}
+use mathlib.Core.Path.{_≡_, refl, sym, ap, _∙_}
+use mathlib.Core.Bool.{Bool, true, false, cond}
+use mathlib.Core.List.{List}
+use native.Mathlib.Omega.{arith}
+use lib.ListN.{length}
+use lib.Dec.{ltb}
+use borrow.Author.Tests.{le-ltb, ltb-false}
+use Rattle.runs.specs.Run.{levels, gives}
+use Rattle.runs.specs.Runs.{Decodes}
+use Rattle.runs.specs.Lent.{front}
+use Rattle.runs.specs.Read.{readAnswer, readOut, ReadPromise, Readable, checkAnswer, CheckPromise}
+use Rattle.runs.specs.declared.ReadRefusal.{ReadRefusal}
+use Rattle.runs.specs.declared.ReadRefusal.the-variants as F
+use Rattle.runs.specs.declared.RunRead.{RunRead}
+use Rattle.runs.specs.declared.RunRead.the-variants as R
+use Rattle.runs.specs.declared.CheckRefusal.the-variants as C
+use Rattle.runs.specs.declared.RunCheck.{RunCheck}
+use Rattle.runs.specs.declared.RunCheck.the-variants as K
+use Rattle.runs.proofs.Meaning.{decodes-levels, gives-exactly, exactly-gives}
+
+-- ---- run read
+refused-not-read : (why : ReadRefusal) → R.Refused why ≡ R.Read → ⊥
+refused-not-read why e = let z : _≡_ {A = ℕ} 0 1 = cc e in omega arith
+
+passes : (b : Bool) (why : ReadRefusal) (r : RunRead) → cond b (R.Refused why) r ≡ R.Read → (b ≡ false) × (r ≡ R.Read)
+passes false why r e = (refl, e)
+passes true why r e = absurd (refused-not-read why e)
+
+gave : (b : Bool) (why : ReadRefusal) → cond b R.Read (R.Refused why) ≡ R.Read → b ≡ true
+gave true why e = refl
+gave false why e = absurd (refused-not-read why e)
+
+read-readable : (v n room : ℕ) (s : List ℕ) → readAnswer v n room s ≡ R.Read → Readable v n room s
+unfolding readAnswer
+read-readable v n room s e =
+    let last : RunRead = cond (gives v n s) R.Read (R.Refused F.WrongBins) in
+    let third : RunRead = cond (ltb room n) (R.Refused F.RoomTooShort) last in
+    let second : RunRead = cond (ltb 2097152 n) (R.Refused F.TooManyBins) third in
+    let one = passes (ltb 253 v) F.VOver253 second e in
+    let two = passes (ltb 2097152 n) F.TooManyBins third (one .1) in
+    let three = passes (ltb room n) F.RoomTooShort last (two .1) in
+    record {
+      low = ltb-false 253 v (one .0);
+      few = ltb-false 2097152 n (two .0);
+      room-enough = ltb-false room n (three .0);
+      exactly = gives-exactly v n s (gave (gives v n s) F.WrongBins (three .1));
+    }
+
+readable-read : (v n room : ℕ) (s : List ℕ) → Readable v n room s → readAnswer v n room s ≡ R.Read
+unfolding readAnswer
+readable-read v n room s r =
+    simp (le-ltb 253 v (r .low), le-ltb 2097152 n (r .few), le-ltb room n (r .room-enough), exactly-gives v n s (r .exactly))
+
+module _ {v n : ℕ} {s d out : List ℕ} {answer : RunRead} (p : ReadPromise v n s d answer out) where
+  -- it reads exactly where it can, and then what stands in front is what the octets stand for
+  pub read-only : answer ≡ R.Read → Readable v n (length d) s
+  read-only e = read-readable v n (length d) s (sym (p .answered) ∙ e)
+
+  pub read-where : Readable v n (length d) s → answer ≡ R.Read
+  read-where r = p .answered ∙ readable-read v n (length d) s r
+
+  pub read-levels : answer ≡ R.Read → (ls : List ℕ) → Decodes v s ls → out ≡ front ls d
+  read-levels e ls x =
+      p .held ∙ (λ i. readOut (e i) (sym (decodes-levels x .1) i) d)
+
+  -- a refusal changes nothing
+  pub read-refused : (why : ReadRefusal) → answer ≡ R.Refused why → out ≡ d
+  read-refused why e = p .held ∙ ap (λ (r : RunRead). readOut r (levels v s) d) e
+
+-- two outcomes that the promise allows are equal
+pub read-one : {v n : ℕ} {s d out out′ : List ℕ} {r r′ : RunRead} → ReadPromise v n s d r out → ReadPromise v n s d r′ out′ → (r ≡ r′) × (out ≡ out′)
+read-one {v} {n} {s} {d} p q =
+    let same = p .answered ∙ sym (q .answered) in
+    (same, p .held ∙ ap (λ (r : RunRead). readOut r (levels v s) d) same ∙ sym (q .held))
+
+-- ---- run check: what run read would find
+-- an answer of run read where room is no matter
+unfoldable pub asCheck : RunRead → RunCheck
+asCheck R.Read = K.Gives
+asCheck (R.Refused F.VOver253) = K.Refused C.VOver253
+asCheck (R.Refused F.TooManyBins) = K.Refused C.TooManyBins
+asCheck (R.Refused F.RoomTooShort) = K.Gives
+asCheck (R.Refused F.WrongBins) = K.Refused C.WrongBins
+
+by-test : (a b c : Bool) →
+    asCheck (cond a (R.Refused F.VOver253) (cond b (R.Refused F.TooManyBins) (cond c R.Read (R.Refused F.WrongBins)))) ≡ cond a (K.Refused C.VOver253) (cond b (K.Refused C.TooManyBins) (cond c K.Gives (K.Refused C.WrongBins)))
+unfolding asCheck
+by-test true b c = refl
+by-test false true c = refl
+by-test false false true = refl
+by-test false false false = refl
+
+pub check-as-read : (v n room : ℕ) (s : List ℕ) → n ≤ room → asCheck (readAnswer v n room s) ≡ checkAnswer v n s
+unfolding readAnswer checkAnswer
+check-as-read v n room s h = simp (le-ltb room n h) (by-test (ltb 253 v) (ltb 2097152 n) (gives v n s))
+
+pub check-one : {v n : ℕ} {s : List ℕ} {r r′ : RunCheck} → CheckPromise v n s r → CheckPromise v n s r′ → r ≡ r′
+check-one p q = p .answered ∙ sym (q .answered)

@@ -1,0 +1,103 @@
+-- `known_run` meets its contract: the digits still to come, weighed truly, make up what is left of the run.
+use Prim.Native.Nat.{_-_, _*_, _≤_, _<_}
+use native.Mathlib.Omega.{arith}
+use native.Mathlib.Nat.{mul-le-mul}
+use lib.ListN.{length, getD}
+use borrow.Author.Tests.{le-leb, lt-leb}
+use Rattle.runs.proofs.Bins.{product}
+use Rattle.runs.proofs.Digits.{Still, still-start, still-short, still-end, still-stop, still-more}
+use borrow.Author.Needs.{needs}
+use Rattle.runs.proofs.known_run.Statement.{statement}
+use Rattle.runs.proofs.known_run.Tie as tie
+
+abbrev Inv-loop : tie.InvT-loop
+Inv-loop octets v at base i₀ len₀ weight₀ i len weight = (i ≤ length octets) × (weight ≤ 2097152 * 255) × Still v octets at i len weight
+
+abbrev μ-loop : tie.MeasureT-loop
+μ-loop octets v at base i₀ len₀ weight₀ i len weight = length octets - i
+
+sub-base : tie.Need-sub-base Inv-loop μ-loop
+sub-base c = search needs
+
+add-i : tie.Need-add-i Inv-loop μ-loop
+add-i c = search needs
+
+loop-holds : tie.Need-loop-holds Inv-loop μ-loop
+loop-holds c = (omega arith, omega arith, still-start (c .args .v) (c .args .octets .now) (c .args .at))
+
+shared-slice-read-o : tie.Need-shared-slice-read-o Inv-loop μ-loop
+shared-slice-read-o c = search needs
+
+sub-len : tie.Need-sub-len Inv-loop μ-loop
+sub-len c = search needs
+
+sub-len-2 : tie.Need-sub-len-2 Inv-loop μ-loop
+sub-len-2 c = search needs
+
+cast-len : tie.Need-cast-len Inv-loop μ-loop
+cast-len c = omega (arith, c .before .shared-slice-known .given (c .before .before .before .loop .i))
+
+mul-len : tie.Need-mul-len Inv-loop μ-loop
+mul-len c = let a = c .before .before .before .before .args in
+    let l = c .before .before .before .loop in
+    record { fits = omega (arith, product (2097152 * 255) (getD (a .octets .now) (l .i) 0 - a .v - 1) (l .weight) (omega (arith, c .before .shared-slice-known .given (l .i))) (omega arith)) }
+
+add-len : tie.Need-add-len Inv-loop μ-loop
+add-len c = let a = c .before .before .before .before .args in
+    let l = c .before .before .before .loop in
+    record { fits = omega (arith, still-short (l .inv .2), product (2097152 * 255) (getD (a .octets .now) (l .i) 0 - a .v - 1) (l .weight) (omega (arith, c .before .shared-slice-known .given (l .i))) (omega arith)) }
+
+add-i-2 : tie.Need-add-i-2 Inv-loop μ-loop
+add-i-2 c = search needs
+
+mul-weight : tie.Need-mul-weight Inv-loop μ-loop
+mul-weight c = let a = c .before .before .before .before .before .args in
+    let l = c .before .before .before .before .loop in
+    record { fits = omega (arith, mul-le-mul {n₁ = l .weight} {m₁ = 255 - a .v} {n₂ = 2097152} {m₂ = 255} (omega arith) (omega arith)) }
+
+loop-less : tie.Need-loop-less Inv-loop μ-loop
+loop-less c = search needs
+
+loop-again : tie.Need-loop-again Inv-loop μ-loop
+loop-again c = let a = c .before .before .before .before .before .args in
+    let l = c .before .before .before .before .loop in
+    let small : l .weight ≤ 2097152 = omega arith in
+    (omega arith, omega (arith, mul-le-mul {n₁ = l .weight} {m₁ = 255 - a .v} {n₂ = 2097152} {m₂ = 255} (omega arith) (omega arith)), (simp (le-leb _ _ small) at (still-more (l .inv .2) (omega arith) (omega arith) (omega arith) (omega arith))))
+
+loop-less-2 : tie.Need-loop-less-2 Inv-loop μ-loop
+loop-less-2 c = search needs
+
+loop-again-2 : tie.Need-loop-again-2 Inv-loop μ-loop
+loop-again-2 c = let l = c .before .before .before .before .loop in
+    let large : 2097152 < l .weight = omega arith in
+    (omega arith, omega arith, (simp (lt-leb _ _ large) at (still-more (l .inv .2) (omega arith) (omega arith) (omega arith) (omega arith))))
+
+returns : tie.Need-returns Inv-loop μ-loop
+returns c = still-end (c .before .loop .inv .2) (omega arith)
+
+returns-2 : tie.Need-returns-2 Inv-loop μ-loop
+returns-2 c = still-stop (c .before .before .before .loop .inv .2) (omega arith) (omega arith)
+
+pub known-run-spec : {M : Type 1} → statement M
+known-run-spec =
+    tie.close
+    (tie.spec
+    Inv-loop
+    μ-loop
+    sub-base
+    add-i
+    loop-holds
+    shared-slice-read-o
+    sub-len
+    sub-len-2
+    cast-len
+    mul-len
+    add-len
+    add-i-2
+    mul-weight
+    loop-less
+    loop-again
+    loop-less-2
+    loop-again-2
+    returns
+    returns-2)

@@ -1,0 +1,28 @@
+-- Document 01, "Run-length rule", said as a relation built from runs. proofs/Meaning.antt: it holds exactly of what `levels` gives.
+use Prim.Native.Nat.{ℕ, _+_, _-_, _*_, _^_, _≤_, _<_}
+use mathlib.Core.Path.{_≡_}
+use mathlib.Core.List.{List, [], _∷_, _++_}
+use lib.ListN.{length, replicate}
+use Rattle.runs.specs.Run.{base}
+
+-- octets above V: digits
+pub data Digits (v : ℕ) : List ℕ → Type 0 where
+  no-digit : Digits v []
+  digit : {o : ℕ} {ds : List ℕ} → v < o → Digits v ds → Digits v (o ∷ ds)
+
+-- digit j, which is its octet - V - 1, times B^(k + j), added up
+unfoldable pub sumFrom : ℕ → ℕ → List ℕ → ℕ
+sumFrom v k [] = 0
+sumFrom v k (o ∷ ds) = (o - v - 1) * base v ^ k + sumFrom v (k + 1) ds
+
+-- Octets stand for levels under V. No octets stand for none; a level, its digits and octets that stand for levels themselves (so that they
+-- do not open with a digit) stand for the level 1 + the digits' sum times, and then for those levels
+pub data Decodes (v : ℕ) : List ℕ → List ℕ → Type 0 where
+  no-run : Decodes v [] []
+  run : {x : ℕ} {ds s ls : List ℕ} → x ≤ v → Digits v ds → Decodes v s ls → Decodes v (x ∷ (ds ++ s)) (replicate (1 + sumFrom v 0 ds) x ++ ls)
+
+-- octets stand for exactly n levels
+pub record Exactly (v n : ℕ) (s : List ℕ) : Type 0 where
+  pub row : List ℕ
+  pub decodes : Decodes v s row
+  pub count : length row ≡ n

@@ -1,0 +1,140 @@
+/*
+ * polar.h: polar weather-radar files (GRIB2, run-length packed), by proved calls.
+ *
+ * Any octets may be lent, whole, cut short or spoiled. Every call ends, and gives its answer or one numbered refusal with
+ * its place. No call asks anything of its caller beforehand but that the memory it is lent is there, and that what it may
+ * write overlaps nothing else that it is lent. Where a length is 0 the pointer before it is not followed; it still should
+ * not be null.
+ *
+ * Each call returns 0, or the number of a refusal (see POLAR_* below). `answer[0]`, or `place[0]`, is always set: the
+ * refusal's place, and 0 where nothing is refused. All other words of an answer, and all other lent memory, change only
+ * where nothing is refused, and no further than is said to be written.
+ *
+ * A place is the start of the section concerned, counted from 0 in the file; it is 0 for refusals 1, 2, 10, 11, for the
+ * bare run calls, and for any number that concerns no section. Cuts, rays and bins count from 0. Any value may be handed in.
+ *
+ * Every call on a file is lent the whole file and makes all its checks itself, in this order: 1, 2, then section by
+ * section 3, 9, 4, 5, 6, 7, 12, 8; then 10; then 11. Values are in hundredths: of dBZ for reflectivity, of m/s for velocity.
+ */
+#ifndef POLAR_H
+#define POLAR_H
+
+#include <stddef.h>
+#include <stdint.h>
+
+#ifdef __cplusplus
+extern "C" {
+#endif
+
+/* The refusals. */
+#define POLAR_FILE_SIZE 1u      /* the lent file is under 20 or over 8,388,608 octets */
+#define POLAR_SECTION_0 2u      /* section 0 is not as it should be */
+#define POLAR_SECTIONS 3u       /* a section's length or number cannot stand here, or the end is wrong */
+#define POLAR_SECTION_LENGTH 4u /* a section's own length is wrong */
+#define POLAR_FIELD 5u          /* a named field is outside its rule */
+#define POLAR_POINTS 6u         /* the point count in section 3 or 5 is not Nb x Nr */
+#define POLAR_VALUES 7u         /* the value table differs from the published one */
+#define POLAR_DATA 8u           /* data opens above V, or gives more or fewer bins than wanted */
+#define POLAR_CUTS 9u           /* a section 3 or 4 begins a 65th cut */
+#define POLAR_ARGUMENT 10u      /* an argument is outside its range */
+#define POLAR_ROOM 11u          /* the lent room is too short */
+#define POLAR_V 12u             /* V is over 253 */
+
+#define POLAR_REFLECTIVITY 1u
+#define POLAR_VELOCITY 2u
+
+/* Kinds of a stretch. */
+#define POLAR_MISSING 0u /* out of range or missing: no number */
+#define POLAR_UNDER 1u   /* value below the threshold */
+#define POLAR_OVER 2u    /* value at or above the threshold */
+
+/* Words to an entry of the stretch list: ray, first bin, length, kind. */
+#define POLAR_ENTRY_WORDS 4u
+
+/* The threshold of polar_house_stretches, in hundredths. */
+#define POLAR_HOUSE_THRESHOLD 4000
+
+/* ---- runs, without a file (place always 0) ---- */
+
+/*
+ * Run check: what polar_run_read would find in `octets` under V for n levels, with nothing lent.
+ * Refusals, in this order: 12; 10 where n is over 2,097,152; 8.
+ */
+uint32_t polar_run_check(const uint8_t *octets, size_t octets_len, uint8_t v, size_t n);
+
+/*
+ * Run read: writes n levels at the front of `levels`, which has room for `room`.
+ * Refusals, in this order: 12; 10 where n is over 2,097,152; 11 where room is under n; 8.
+ */
+uint32_t polar_run_read(const uint8_t *octets, size_t octets_len, uint8_t v, size_t n, uint8_t *levels, size_t room,
+                        uint64_t place[1]);
+
+/*
+ * Run write: writes the octets of `n` levels at the front of `octets`, which has room for `room`. Read back under the V
+ * that it answers, they give the same levels.
+ * answer: place, V, number of octets.
+ * Refusals, in this order: 10 where n is over 2,097,152 or a level over 252; 11 where room is under the exact length.
+ */
+uint32_t polar_run_write(const uint8_t *levels, size_t n, uint8_t *octets, size_t room, uint64_t answer[3]);
+
+/* ---- files ---- */
+
+/*
+ * Open.
+ * answer: place, product (1 reflectivity, 2 velocity), year, month, day, hour, minute, second, site number, number of cuts.
+ */
+uint32_t polar_open(const uint8_t *file, size_t len, uint64_t answer[10]);
+
+/*
+ * Cut: what sections 3 and 4 say of one cut.
+ * answer: place; Nb, bins on a ray; Nr, rays; latitude and longitude in 10^-6 degrees; Dx, the bins' spacing, and Dstart,
+ * both in 10^-3 m; start azimuth in 10^-2 degrees; octet 38, the mode of operation (0, 1, 2, or 255 missing); 1 where the
+ * elevation is known and 0 where it is missing; the elevation constant in 10^-2 degrees, unchanged where it is missing.
+ * Refusal 10: cut.
+ */
+uint32_t polar_cut(const uint8_t *file, size_t len, size_t cut, int64_t answer[11]);
+
+/*
+ * Ray levels: writes Nb levels at the front of `levels`.
+ * Refusal 10: cut, ray. Refusal 11: room under Nb.
+ */
+uint32_t polar_ray_levels(const uint8_t *file, size_t len, size_t cut, size_t ray, uint8_t *levels, size_t room,
+                          uint64_t place[1]);
+
+/*
+ * Ray values: writes Nb marks (0 missing, 1 measured) at the front of `marks` and, at each measured place, the value in
+ * hundredths into `values`; a missing place of `values` keeps what it held.
+ * Refusal 10: cut, ray. Refusal 11: either room under Nb.
+ */
+uint32_t polar_ray_values(const uint8_t *file, size_t len, size_t cut, size_t ray, uint8_t *marks, size_t marks_room,
+                          int32_t *values, size_t values_room, uint64_t place[1]);
+
+/*
+ * Bin value: sets *value to the value, the whole hundredths taken over exactly and divided once by 100, where the bin is
+ * measured; where it is missing *value is unchanged.
+ * answer: place, mark (0 missing, 1 measured).
+ * Refusal 10: cut, ray, bin.
+ */
+uint32_t polar_bin_value(const uint8_t *file, size_t len, size_t cut, size_t ray, size_t bin, double *value,
+                         uint64_t answer[2]);
+
+/*
+ * Stretches: every longest stretch of one kind on a ray that starts at or past the point (ray, bin), by ray and then by
+ * first bin, as many as fit: four words to an entry (ray, first bin, length, kind) at the front of `words`, which has room
+ * for `room` words. t is the threshold in hundredths, -32767 to 32767. The point is inside the grid, or (Nr, 0).
+ * answer: place, count of entries, and the next point, ray and bin: the first unlisted start at or past the point, or
+ * (Nr, 0) if there is none. Handed back as the next call's point it goes on with the list.
+ * Refusal 10: cut, t, point. Refusal 11: room under 4 words.
+ */
+uint32_t polar_stretches(const uint8_t *file, size_t len, size_t cut, int32_t t, size_t ray, size_t bin, uint32_t *words,
+                         size_t room, uint64_t answer[4]);
+
+/* The same at the house threshold, POLAR_HOUSE_THRESHOLD. */
+uint32_t polar_house_stretches(const uint8_t *file, size_t len, size_t cut, size_t ray, size_t bin, uint32_t *words,
+                               size_t room, uint64_t answer[4]);
+
+#ifdef __cplusplus
+}
+#endif
+
+#endif

@@ -1,0 +1,26 @@
+//! The proved library against plain Rust that does the same work and makes the same checks, in one run: least times in
+//! microseconds and their ratio. All buffers are made and written to before the first time is taken.
+#[cfg(feature = "files")]
+mod files;
+#[cfg(feature = "lister")]
+mod lister;
+mod runs;
+mod timing;
+
+fn main() {
+    let library = if cfg!(target_arch = "x86_64") { "the archive of rt staticlib" } else { "the same module compiled for this machine" };
+    println!("{}, {library}; least of at least 15 pairs", std::env::consts::ARCH);
+    let wanted: Vec<String> = std::env::args().skip(1).collect();
+    let asked = |name: &str| wanted.is_empty() || wanted.iter().any(|word| word == name);
+    if asked("runs") {
+        runs::rows();
+    }
+    #[cfg(feature = "files")]
+    if asked("files") {
+        files::rows();
+    }
+    #[cfg(feature = "lister")]
+    if asked("lister") {
+        lister::rows();
+    }
+}

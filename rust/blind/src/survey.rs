@@ -1,0 +1,81 @@
+//! A cut's stretches with where they lie, and its totals.
+use polar::{Cut, Kind, Refusal, Stretch};
+use std::fmt;
+use std::io;
+
+/// Why a file was not listed.
+pub enum Problem {
+    Refused(Refusal),
+    Unread(io::Error),
+    Undrawn(String, io::Error),
+}
+
+impl fmt::Display for Problem {
+    fn fmt(&self, f: &mut fmt::Formatter<'_>) -> fmt::Result {
+        match self {
+            Problem::Refused(refusal) => write!(f, "{refusal}"),
+            Problem::Unread(why) => write!(f, "could not be read: {why}"),
+            Problem::Undrawn(out, why) => write!(f, "{out} could not be written: {why}"),
+        }
+    }
+}
+
+/// One cut: its stretches at a threshold, and how many bins are of each kind.
+pub struct CutSurvey<'a> {
+    pub cut: Cut<'a>,
+    /// in hundredths
+    pub threshold: i32,
+    pub stretches: Vec<Stretch>,
+    /// by kind, in the order of [`Kind::ALL`]
+    totals: [usize; 3],
+}
+
+impl<'a> CutSurvey<'a> {
+    pub fn new(cut: Cut<'a>, threshold: i32) -> Result<Self, Refusal> {
+        let stretches: Vec<Stretch> = cut.stretches(threshold)?.collect();
+        let total = |kind| stretches.iter().filter(|s| s.kind == kind).map(|s| s.length).sum();
+        let totals = Kind::ALL.map(total);
+        Ok(CutSurvey { cut, threshold, stretches, totals })
+    }
+
+    /// How many bins are of this kind.
+    pub fn bins(&self, kind: Kind) -> usize {
+        self.totals[kind as usize]
+    }
+
+    /// How many of a hundred bins are of this kind.
+    pub fn percent(&self, kind: Kind) -> f64 {
+        100.0 * self.bins(kind) as f64 / (self.cut.bin_count() * self.cut.ray_count()) as f64
+    }
+
+    /// The angle of one ray, in degrees.
+    pub fn ray_width(&self) -> f64 {
+        360.0 / self.cut.ray_count() as f64
+    }
+
+    /// Where a ray starts, in degrees from north by the east. The ray past the last starts where the last one ends.
+    pub fn ray_start(&self, ray: usize) -> f64 {
+        f64::from(self.cut.start_azimuth()) / 100.0 + ray as f64 * self.ray_width()
+    }
+
+    /// The azimuth of a ray's middle, in degrees from 0 to 360.
+    pub fn azimuth(&self, ray: usize) -> f64 {
+        (self.ray_start(ray) + self.ray_width() / 2.0) % 360.0
+    }
+
+    /// The distance in metres at which a bin begins. The bin past the last begins where the last one ends.
+    pub fn distance(&self, bin: usize) -> f64 {
+        (f64::from(self.cut.start()) + bin as f64 * f64::from(self.cut.spacing())) / 1000.0
+    }
+}
+
+/// A number of hundredths, with its two decimals.
+pub struct Hundredths(pub i32);
+
+impl fmt::Display for Hundredths {
+    fn fmt(&self, f: &mut fmt::Formatter<'_>) -> fmt::Result {
+        let sign = if self.0 < 0 { "-" } else { "" };
+        let size = self.0.unsigned_abs();
+        write!(f, "{sign}{}.{:02}", size / 100, size % 100)
+    }
+}

@@ -1,0 +1,150 @@
+//! One call on both sides: the same answer or refusal, and every element of every lent buffer the same after it.
+use crate::lent::Lent;
+use crate::ours;
+use reference::layout::{verdict, Accepted};
+use reference::runs::{self, Written};
+use reference::stretches::{list, portion, Entry, Portion, HOUSE_THRESHOLD};
+use reference::Refusal;
+
+/// Octets for a message, the first of them if they are many.
+fn shown(octets: &[u8]) -> String {
+    const MOST: usize = 1500;
+    let more = if octets.len() > MOST { ".." } else { "" };
+    format!("{} octets {:?}{more}", octets.len(), &octets[..octets.len().min(MOST)])
+}
+
+pub fn run_check(octets: &[u8], v: u8, n: usize) -> Result<(), Refusal> {
+    let answer = ours::run_check(octets, v, n);
+    assert_eq!(answer, runs::run_check(octets, v, n), "run check, V {v}, n {n}, {}", shown(octets));
+    answer
+}
+
+pub fn run_read(octets: &[u8], v: u8, n: usize, room: usize) -> Result<(), Refusal> {
+    let (mut mine, mut theirs) = (Lent::new(room), Lent::new(room));
+    let answer = ours::run_read(octets, v, n, mine.room());
+    let call = || format!("run read, V {v}, n {n}, room {room}, {}", shown(octets));
+    assert_eq!(answer, runs::run_read(octets, v, n, theirs.room()), "{}", call());
+    assert!(mine == theirs, "levels differ: {}", call());
+    answer
+}
+
+pub fn run_write(levels: &[u8], room: usize) -> Result<Written, Refusal> {
+    let (mut mine, mut theirs) = (Lent::new(room), Lent::new(room));
+    let answer = ours::run_write(levels, mine.room());
+    let call = || format!("run write, room {room}, {}", shown(levels));
+    assert_eq!(answer, runs::run_write(levels, theirs.room()), "{}", call());
+    assert!(mine == theirs, "octets differ: {}", call());
+    answer
+}
+
+/// The calls on one file, with the independent reader's verdict on it.
+pub struct Compared<'a> {
+    pub file: &'a [u8],
+    pub verdict: Result<Accepted<'a>, Refusal>,
+}
+
+impl<'a> Compared<'a> {
+    pub fn new(file: &'a [u8]) -> Self {
+        Compared { file, verdict: verdict(file) }
+    }
+
+    /// What the independent reader answers on the file, if it is accepted; else the file's refusal.
+    fn theirs<T>(&self, call: impl FnOnce(&Accepted<'a>) -> Result<T, Refusal>) -> Result<T, Refusal> {
+        match &self.verdict {
+            Ok(accepted) => call(accepted),
+            Err(refusal) => Err(*refusal),
+        }
+    }
+
+    fn told(&self, call: &str) -> String {
+        format!("{call}, {}", shown(self.file))
+    }
+
+    pub fn open(&self) -> Result<(), Refusal> {
+        let answer = ours::open(self.file);
+        assert_eq!(answer, reference::calls::open(self.file), "{}", self.told("open"));
+        answer.map(|_| ())
+    }
+
+    pub fn cut(&self, cut: usize) {
+        let expected = self.theirs(|file| file.facts(cut));
+        assert_eq!(ours::cut(self.file, cut), expected, "{}", self.told(&format!("cut {cut}")));
+    }
+
+    pub fn ray_levels(&self, cut: usize, ray: usize, room: usize) {
+        let (mut mine, mut theirs) = (Lent::new(room), Lent::new(room));
+        let answer = ours::ray_levels(self.file, cut, ray, mine.room());
+        let expected = self.theirs(|file| file.ray_levels(cut, ray, theirs.room()));
+        let call = || self.told(&format!("ray levels, cut {cut}, ray {ray}, room {room}"));
+        assert_eq!(answer, expected, "{}", call());
+        assert!(mine == theirs, "levels differ: {}", call());
+    }
+
+    pub fn ray_values(&self, cut: usize, ray: usize, marks_room: usize, values_room: usize) {
+        let (mut marks, mut their_marks) = (Lent::new(marks_room), Lent::new(marks_room));
+        let (mut values, mut their_values) = (Lent::new(values_room), Lent::new(values_room));
+        let answer = ours::ray_values(self.file, cut, ray, marks.room(), values.room());
+        let expected = self.theirs(|file| file.ray_values(cut, ray, their_marks.room(), their_values.room()));
+        let call = || self.told(&format!("ray values, cut {cut}, ray {ray}, rooms {marks_room} and {values_room}"));
+        assert_eq!(answer, expected, "{}", call());
+        assert!(marks == their_marks, "marks differ: {}", call());
+        assert!(values == their_values, "values differ: {}", call());
+    }
+
+    pub fn bin_value(&self, cut: usize, ray: usize, bin: usize) {
+        let answer = ours::bin_value(self.file, cut, ray, bin);
+        let expected = self.theirs(|file| file.bin_value(cut, ray, bin)).map(|value| value.map(f64::to_bits));
+        assert_eq!(answer, expected, "{}", self.told(&format!("bin value, cut {cut}, ray {ray}, bin {bin}")));
+    }
+
+    /// One portion of `entries`, the list of this cut at this threshold. Nothing where the cut or the threshold is refused.
+    fn portion(&self, cut: usize, t: i32, entries: &[Entry], point: (usize, usize), room: usize) -> Result<Portion, Refusal> {
+        let (mut mine, mut theirs) = (Lent::new(room), Lent::new(room));
+        let answer = ours::stretches(self.file, cut, t, point, mine.room());
+        let expected = self.theirs(|file| {
+            file.check_stretches(cut, t, point, room)?;
+            Ok(portion(entries, file.cuts[cut].grid.rays, point, theirs.room()))
+        });
+        let call = || self.told(&format!("stretches, cut {cut}, T {t}, point {point:?}, room {room}"));
+        assert_eq!(answer, expected, "{}", call());
+        assert!(mine == theirs, "words differ: {}", call());
+        if t == HOUSE_THRESHOLD {
+            let mut house = Lent::new(room);
+            assert_eq!(ours::house_stretches(self.file, cut, point, house.room()), expected, "house form: {}", call());
+            assert!(house == theirs, "house form, words differ: {}", call());
+        }
+        answer
+    }
+
+    /// The independent reader's whole list; empty where there is none.
+    pub fn list(&self, cut: usize, t: i32) -> Vec<Entry> {
+        let whole = self.theirs(|file| Ok(file.cuts.get(cut).map_or(vec![], |cut| list(cut, file.product, t))));
+        whole.unwrap_or_default()
+    }
+
+    pub fn stretches(&self, cut: usize, t: i32, point: (usize, usize), room: usize) {
+        let _ = self.portion(cut, t, &self.list(cut, t), point, room);
+    }
+
+    /// Many portions of one list, each of one call.
+    pub fn portions(&self, cut: usize, t: i32, calls: impl IntoIterator<Item = ((usize, usize), usize)>) {
+        let entries = self.list(cut, t);
+        for (point, room) in calls {
+            let _ = self.portion(cut, t, &entries, point, room);
+        }
+    }
+
+    /// The list fetched in portions of `room` words from the first bin, each next point handed back.
+    pub fn fetched(&self, cut: usize, t: i32, room: usize) {
+        let entries = self.list(cut, t);
+        let Ok(accepted) = &self.verdict else { return };
+        let end = (accepted.cuts[cut].grid.rays, 0);
+        let (mut point, mut count) = ((0, 0), 0);
+        while point != end {
+            let portion = self.portion(cut, t, &entries, point, room).expect("a portion");
+            assert!(portion.next > point, "the fetching stands still");
+            (point, count) = (portion.next, count + portion.count);
+        }
+        assert_eq!(count, entries.len());
+    }
+}

@@ -1,0 +1,44 @@
+//! Buffers to be lent: filled with a pattern, and standing between guards, so that any store out of place shows.
+
+/// How many elements stand before and after what is lent.
+const GUARD: usize = 8;
+
+pub trait Pattern: Copy {
+    /// What stands at place `i` before a call.
+    fn pattern(i: usize) -> Self;
+}
+
+impl Pattern for u8 {
+    fn pattern(i: usize) -> u8 {
+        (i.wrapping_mul(37) ^ 0xA5) as u8
+    }
+}
+
+impl Pattern for i32 {
+    fn pattern(i: usize) -> i32 {
+        i32::MIN + i as i32
+    }
+}
+
+impl Pattern for u32 {
+    fn pattern(i: usize) -> u32 {
+        0xA500_0000 + i as u32
+    }
+}
+
+#[derive(Debug, PartialEq, Eq)]
+pub struct Lent<T> {
+    all: Vec<T>,
+}
+
+impl<T: Pattern> Lent<T> {
+    pub fn new(room: usize) -> Self {
+        Lent { all: (0..room + 2 * GUARD).map(T::pattern).collect() }
+    }
+
+    /// What is lent.
+    pub fn room(&mut self) -> &mut [T] {
+        let end = self.all.len() - GUARD;
+        &mut self.all[GUARD..end]
+    }
+}

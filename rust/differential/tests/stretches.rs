@@ -1,0 +1,138 @@
+//! Stretches and the house form against the independent reader.
+use differential::compare::Compared;
+use reference::maker::{document_sample, CutPlan, Plan};
+use reference::numbers::Numbers;
+use reference::published::Product;
+use reference::runs::MOST_LEVELS;
+use reference::shapes::{random_cut, random_plan};
+use reference::spoil::spoil;
+use reference::stretches::HOUSE_THRESHOLD;
+
+const ENDS: [i32; 7] = [-32767, -7000, -1, 0, 1, 8016, 32767];
+
+/// All points of the grid, legal or just past it, in every room from none to more than enough.
+fn all_points_and_rooms(compared: &Compared, cut: usize, t: i32) {
+    let grid = compared.verdict.as_ref().expect("a sound file").cuts[cut].grid;
+    let enough = 4 * compared.list(cut, t).len() + 5;
+    let points = (0..=grid.rays + 1).flat_map(|ray| (0..=grid.bins + 1).map(move |bin| (ray, bin)));
+    let calls = points.flat_map(|point| [0, 3, 4, 5, 7, 8, 11, 12, enough].map(|room| (point, room)));
+    compared.portions(cut, t, calls);
+}
+
+/// The list fetched in portions of every room from 4 words up.
+fn every_room(compared: &Compared, cut: usize, t: i32) {
+    for room in 4..=4 * compared.list(cut, t).len() + 4 {
+        compared.fetched(cut, t, room);
+    }
+}
+
+#[test]
+fn the_documents_sample() {
+    let file = document_sample().file();
+    let compared = Compared::new(&file);
+    for t in ENDS.into_iter().chain([HOUSE_THRESHOLD, 4112, 4113, 4111]) {
+        all_points_and_rooms(&compared, 0, t);
+        every_room(&compared, 0, t);
+    }
+}
+
+#[test]
+fn all_points_of_small_grids() {
+    let mut n = Numbers::new(51);
+    for _ in 0..250 {
+        let (bins, rays) = n.one_of(&[(1, 1), (4, 3), (7, 2), (1, 7), (9, 1)]);
+        let file = random_plan(2, bins, rays, &mut n).file();
+        let compared = Compared::new(&file);
+        for cut in 0..compared.verdict.as_ref().unwrap().cuts.len() {
+            let t = n.within(0, 17_000) as i32 - 8000;
+            for t in [HOUSE_THRESHOLD, t] {
+                all_points_and_rooms(&compared, cut, t);
+                every_room(&compared, cut, t);
+            }
+        }
+    }
+}
+
+/// Each published value, one below and one above, over a cut that holds every level.
+#[test]
+fn every_threshold_that_matters() {
+    let mut n = Numbers::new(52);
+    for product in Product::BOTH {
+        let most = product.levels() as u8;
+        let mut levels: Vec<u8> = (0..=most).chain((0..=most).rev()).collect();
+        levels.extend(n.levels(600 - levels.len(), 0, most, 3));
+        let file = Plan::new(product, vec![CutPlan::of_levels(40, 15, &levels)]).file();
+        let compared = Compared::new(&file);
+        for value in (1..=most).filter_map(|level| product.value(level)) {
+            for t in [value - 1, value, value + 1] {
+                compared.fetched(0, t, 4000);
+            }
+        }
+        for t in ENDS.into_iter().chain([i32::MIN, -32768, 32768, i32::MAX, 65_535, -65_536]) {
+            compared.stretches(0, t, (0, 0), 4000);
+        }
+    }
+}
+
+/// Arguments at the ends of their types, with room too short as well: 10 comes first.
+#[test]
+fn arguments_past_every_edge() {
+    let file = document_sample().file();
+    let compared = Compared::new(&file);
+    let far = [0, 1, 2, 5, 1 << 32, usize::MAX - 1, usize::MAX];
+    for cut in far {
+        for t in [i32::MIN, -32768, -32767, 0, 32767, 32768, i32::MAX] {
+            for ray in far {
+                for bin in far {
+                    compared.stretches(cut, t, (ray, bin), 3);
+                    compared.stretches(cut, t, (ray, bin), 4);
+                }
+            }
+        }
+    }
+}
+
+#[test]
+fn whole_lists_and_portions_of_made_files() {
+    let mut n = Numbers::new(53);
+    for _ in 0..600 {
+        let (bins, rays) = n.one_of(&[(60, 20), (200, 3), (3, 100)]);
+        let file = random_plan(3, bins, rays, &mut n).file();
+        let compared = Compared::new(&file);
+        for cut in 0..compared.verdict.as_ref().unwrap().cuts.len() {
+            let t = n.within(0, 17_000) as i32 - 8000;
+            let room = n.within(40, 400);
+            compared.fetched(cut, t, room);
+            compared.fetched(cut, HOUSE_THRESHOLD, 100_000);
+        }
+    }
+}
+
+/// The greatest grids: a blind cut, noise, and runs across many rays.
+#[test]
+fn grids_at_the_ends() {
+    let mut n = Numbers::new(54);
+    let blind = CutPlan::of_levels(2048, 1024, &vec![0; MOST_LEVELS]);
+    let noise = CutPlan::of_levels(2048, 1024, &n.levels(MOST_LEVELS, 0, 252, 2));
+    let across = random_cut(2048, 1024, Product::Reflectivity, &mut n);
+    let one_bin = random_cut(1, 1024, Product::Reflectivity, &mut n);
+    let one_ray = random_cut(2048, 1, Product::Reflectivity, &mut n);
+    let file = Plan::new(Product::Reflectivity, vec![blind, noise, across, one_bin, one_ray]).file();
+    let compared = Compared::new(&file);
+    for cut in 0..5 {
+        compared.fetched(cut, HOUSE_THRESHOLD, 4 * MOST_LEVELS);
+        compared.fetched(cut, HOUSE_THRESHOLD, 400_001);
+        compared.portions(cut, 16, [((0, 0), 4), ((1023, 0), 4000), ((1023, 2047), 4), ((1024, 0), 4)]);
+    }
+}
+
+#[test]
+fn spoiled_files_are_refused_with_nothing_changed() {
+    let mut n = Numbers::new(55);
+    for _ in 0..8000 {
+        let mut file = random_plan(2, 6, 3, &mut n).file();
+        spoil(&mut file, &mut n);
+        let compared = Compared::new(&file);
+        compared.stretches(n.below(3), n.below(9000) as i32 - 4000, (n.below(4), n.below(7)), n.below(30));
+    }
+}

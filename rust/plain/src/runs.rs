@@ -1,0 +1,120 @@
+//! Template 7.200: scan, read and write.
+use crate::{Answer, Refusal};
+
+const MOST_LEVELS: usize = 2_097_152;
+
+/// The runs of octets, as (level, length): the octets are known to open with a level, and lengths stop growing past
+/// [`MOST_LEVELS`].
+pub struct Runs<'a> {
+    octets: &'a [u8],
+    v: u8,
+}
+
+impl<'a> Runs<'a> {
+    pub fn new(octets: &'a [u8], v: u8) -> Self {
+        Runs { octets, v }
+    }
+}
+
+impl Iterator for Runs<'_> {
+    type Item = (u8, usize);
+
+    #[inline]
+    fn next(&mut self) -> Option<(u8, usize)> {
+        let (level, mut rest) = self.octets.split_first()?;
+        let base = usize::from(255 - self.v);
+        let (mut length, mut weight) = (1, 1);
+        while let Some((digit, after)) = rest.split_first() {
+            if *digit <= self.v {
+                break;
+            }
+            length += usize::from(digit - self.v - 1) * weight;
+            weight = (weight * base).min(MOST_LEVELS);
+            rest = after;
+        }
+        self.octets = rest;
+        Some((*level, length))
+    }
+}
+
+/// Whether octets give exactly n bins. Lengths alone count, so one pass sums what each octet adds.
+pub fn gives(octets: &[u8], v: u8, n: usize) -> bool {
+    if octets.first().is_some_and(|first| *first > v) {
+        return false;
+    }
+    let base = usize::from(255 - v);
+    let (mut bins, mut weight) = (0, 1);
+    for octet in octets {
+        if *octet <= v {
+            bins += 1;
+            weight = 1;
+        } else {
+            bins += usize::from(octet - v - 1) * weight;
+            weight = (weight * base).min(MOST_LEVELS);
+        }
+        if bins > n {
+            return false;
+        }
+    }
+    bins == n
+}
+
+pub fn check(octets: &[u8], v: u8, n: usize) -> Answer<()> {
+    if v > 253 {
+        return Err(Refusal(12, 0));
+    }
+    if n > MOST_LEVELS {
+        return Err(Refusal(10, 0));
+    }
+    if !gives(octets, v, n) {
+        return Err(Refusal(8, 0));
+    }
+    Ok(())
+}
+
+pub fn read(octets: &[u8], v: u8, n: usize, levels: &mut [u8]) -> Answer<()> {
+    if v <= 253 && n <= MOST_LEVELS && levels.len() < n {
+        return Err(Refusal(11, 0));
+    }
+    check(octets, v, n)?;
+    let mut rest = levels;
+    for (level, length) in Runs::new(octets, v) {
+        let (run, after) = rest.split_at_mut(length);
+        run.fill(level);
+        rest = after;
+    }
+    Ok(())
+}
+
+/// V and the number of octets.
+pub fn write(levels: &[u8], octets: &mut [u8]) -> Answer<(u8, usize)> {
+    let v = levels.iter().copied().max().unwrap_or(0);
+    if levels.len() > MOST_LEVELS || v > 252 {
+        return Err(Refusal(10, 0));
+    }
+    let base = usize::from(255 - v);
+    let mut needed = 0;
+    for run in levels.chunk_by(|a, b| a == b) {
+        needed += 1;
+        let mut rest = run.len() - 1;
+        while rest > 0 {
+            needed += 1;
+            rest /= base;
+        }
+    }
+    if octets.len() < needed {
+        return Err(Refusal(11, 0));
+    }
+    let mut at = 0;
+    for run in levels.chunk_by(|a, b| a == b) {
+        octets[at] = run[0];
+        at += 1;
+        let mut rest = run.len() - 1;
+        while rest > 0 {
+            octets[at] = v + 1 + (rest % base) as u8;
+            at += 1;
+            rest /= base;
+        }
+    }
+    Ok((v, at))
+}

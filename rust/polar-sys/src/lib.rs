@@ -1,0 +1,108 @@
+//! The one boundary to the proved library: each of its C functions as a safe function on slices, in the words of
+//! `include/polar.h`. Nothing else in this workspace is unsafe. A test holds [`DECLARATIONS`] to the header and to the
+//! library's source.
+//!
+//! Each function returns 0, or document 01's refusal number. The first word of an answer is always set: the refusal's
+//! place, and 0 where nothing is refused. Its other words, and what lent buffers hold, change only where nothing is refused.
+#![deny(unsafe_op_in_unsafe_fn)]
+
+/// A declaration on this side of the boundary, as text.
+pub struct Declaration {
+    pub name: &'static str,
+    /// names and types
+    pub arguments: &'static [(&'static str, &'static str)],
+    pub result: &'static str,
+}
+
+macro_rules! declare {
+    ($(fn $name:ident($($argument:ident: $type:ty),*) -> $result:ty;)*) => {
+        extern "C" {
+            $(fn $name($($argument: $type),*) -> $result;)*
+        }
+        /// Every declaration that this boundary is linked by.
+        pub const DECLARATIONS: &[Declaration] = &[$(Declaration {
+            name: stringify!($name),
+            arguments: &[$((stringify!($argument), stringify!($type))),*],
+            result: stringify!($result),
+        }),*];
+    };
+}
+
+declare! {
+    fn polar_run_check(octets: *const u8, octets_len: usize, v: u8, n: usize) -> u32;
+    fn polar_run_read(octets: *const u8, octets_len: usize, v: u8, n: usize, levels: *mut u8, room: usize, place: *mut [u64; 1]) -> u32;
+    fn polar_run_write(levels: *const u8, n: usize, octets: *mut u8, room: usize, answer: *mut [u64; 3]) -> u32;
+    fn polar_open(file: *const u8, len: usize, answer: *mut [u64; 10]) -> u32;
+    fn polar_cut(file: *const u8, len: usize, cut: usize, answer: *mut [i64; 11]) -> u32;
+    fn polar_ray_levels(file: *const u8, len: usize, cut: usize, ray: usize, levels: *mut u8, room: usize, place: *mut [u64; 1]) -> u32;
+    fn polar_ray_values(file: *const u8, len: usize, cut: usize, ray: usize, marks: *mut u8, marks_room: usize, values: *mut i32, values_room: usize, place: *mut [u64; 1]) -> u32;
+    fn polar_bin_value(file: *const u8, len: usize, cut: usize, ray: usize, bin: usize, value: *mut f64, answer: *mut [u64; 2]) -> u32;
+    fn polar_stretches(file: *const u8, len: usize, cut: usize, t: i32, ray: usize, bin: usize, words: *mut u32, room: usize, answer: *mut [u64; 4]) -> u32;
+    fn polar_house_stretches(file: *const u8, len: usize, cut: usize, ray: usize, bin: usize, words: *mut u32, room: usize, answer: *mut [u64; 4]) -> u32;
+}
+
+// Each call below hands on a slice as its pointer and its length, and an array as its pointer: memory that is there for as
+// long as the call, and that nobody else changes meanwhile. The proved library asks nothing more of its caller.
+
+/// What run read would find in `octets`, with nothing lent.
+#[inline]
+pub fn run_check(octets: &[u8], v: u8, n: usize) -> u32 {
+    unsafe { polar_run_check(octets.as_ptr(), octets.len(), v, n) }
+}
+
+/// `n` levels at the front of `levels`.
+#[inline]
+pub fn run_read(octets: &[u8], v: u8, n: usize, levels: &mut [u8], place: &mut [u64; 1]) -> u32 {
+    unsafe { polar_run_read(octets.as_ptr(), octets.len(), v, n, levels.as_mut_ptr(), levels.len(), place) }
+}
+
+/// Octets at the front of `octets`. Answer: place, V, number of octets.
+#[inline]
+pub fn run_write(levels: &[u8], octets: &mut [u8], answer: &mut [u64; 3]) -> u32 {
+    unsafe { polar_run_write(levels.as_ptr(), levels.len(), octets.as_mut_ptr(), octets.len(), answer) }
+}
+
+/// Answer: place, product, year, month, day, hour, minute, second, site, number of cuts.
+#[inline]
+pub fn open(file: &[u8], answer: &mut [u64; 10]) -> u32 {
+    unsafe { polar_open(file.as_ptr(), file.len(), answer) }
+}
+
+/// Answer: place, Nb, Nr, latitude, longitude, Dx, Dstart, start azimuth, octet 38, whether the elevation is known, and the
+/// elevation constant (unchanged where it is missing).
+#[inline]
+pub fn cut(file: &[u8], cut: usize, answer: &mut [i64; 11]) -> u32 {
+    unsafe { polar_cut(file.as_ptr(), file.len(), cut, answer) }
+}
+
+/// Nb levels at the front of `levels`.
+#[inline]
+pub fn ray_levels(file: &[u8], cut: usize, ray: usize, levels: &mut [u8], place: &mut [u64; 1]) -> u32 {
+    unsafe { polar_ray_levels(file.as_ptr(), file.len(), cut, ray, levels.as_mut_ptr(), levels.len(), place) }
+}
+
+/// Nb marks at the front of `marks` and, at each measured place, the value in `values`.
+#[inline]
+pub fn ray_values(file: &[u8], cut: usize, ray: usize, marks: &mut [u8], values: &mut [i32], place: &mut [u64; 1]) -> u32 {
+    unsafe {
+        polar_ray_values(file.as_ptr(), file.len(), cut, ray, marks.as_mut_ptr(), marks.len(), values.as_mut_ptr(), values.len(), place)
+    }
+}
+
+/// Answer: place, mark. The value is set only where the mark is 1.
+#[inline]
+pub fn bin_value(file: &[u8], cut: usize, ray: usize, bin: usize, value: &mut f64, answer: &mut [u64; 2]) -> u32 {
+    unsafe { polar_bin_value(file.as_ptr(), file.len(), cut, ray, bin, value, answer) }
+}
+
+/// Entries of four words at the front of `words`. Answer: place, count of entries, next ray, next bin.
+#[inline]
+pub fn stretches(file: &[u8], cut: usize, t: i32, point: (usize, usize), words: &mut [u32], answer: &mut [u64; 4]) -> u32 {
+    unsafe { polar_stretches(file.as_ptr(), file.len(), cut, t, point.0, point.1, words.as_mut_ptr(), words.len(), answer) }
+}
+
+/// The same at the house threshold.
+#[inline]
+pub fn house_stretches(file: &[u8], cut: usize, point: (usize, usize), words: &mut [u32], answer: &mut [u64; 4]) -> u32 {
+    unsafe { polar_house_stretches(file.as_ptr(), file.len(), cut, point.0, point.1, words.as_mut_ptr(), words.len(), answer) }
+}

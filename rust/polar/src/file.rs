@@ -1,0 +1,353 @@
+//! Files, cuts and rays.
+use crate::stretches::Stretches;
+use crate::Refusal;
+use std::fmt;
+use std::iter::FusedIterator;
+use std::ops::Range;
+
+/// What a file's values are.
+#[derive(Debug, Clone, Copy, PartialEq, Eq, Hash)]
+pub enum Product {
+    /// Base reflectivity, in dBZ.
+    Reflectivity,
+    /// Doppler velocity, in m/s.
+    Velocity,
+}
+
+impl Product {
+    /// The unit of its values.
+    pub fn unit(self) -> &'static str {
+        match self {
+            Product::Reflectivity => "dBZ",
+            Product::Velocity => "m/s",
+        }
+    }
+}
+
+impl fmt::Display for Product {
+    fn fmt(&self, f: &mut fmt::Formatter<'_>) -> fmt::Result {
+        f.write_str(match self {
+            Product::Reflectivity => "reflectivity",
+            Product::Velocity => "velocity",
+        })
+    }
+}
+
+/// A file's time, in UTC.
+#[derive(Debug, Clone, Copy, PartialEq, Eq, PartialOrd, Ord, Hash)]
+pub struct Time {
+    /// 1000 to 9999
+    pub year: u16,
+    /// 1 to 12
+    pub month: u8,
+    /// 1 to 31
+    pub day: u8,
+    /// 0 to 23
+    pub hour: u8,
+    /// 0 to 59
+    pub minute: u8,
+    /// 0 to 59
+    pub second: u8,
+}
+
+impl fmt::Display for Time {
+    fn fmt(&self, f: &mut fmt::Formatter<'_>) -> fmt::Result {
+        let Time { year, month, day, hour, minute, second } = self;
+        write!(f, "{year:04}-{month:02}-{day:02}T{hour:02}:{minute:02}:{second:02}Z")
+    }
+}
+
+/// An accepted file.
+#[derive(Debug, Clone, Copy)]
+pub struct File<'a> {
+    octets: &'a [u8],
+    product: Product,
+    time: Time,
+    site: u16,
+    cuts: usize,
+}
+
+impl<'a> File<'a> {
+    /// Checks all of a file, and opens it.
+    ///
+    /// ```
+    /// use polar::{File, Product, Reason};
+    ///
+    /// let octets = include_bytes!("../../../samples/document01.bin");
+    /// let file = File::open(octets)?;
+    /// assert_eq!((file.product(), file.cut_count()), (Product::Reflectivity, 1));
+    ///
+    /// let cut_short = File::open(&octets[..500]).unwrap_err();
+    /// assert_eq!((cut_short.reason(), cut_short.number(), cut_short.place()), (Reason::SectionZero, 2, 0));
+    /// # Ok::<(), polar::Refusal>(())
+    /// ```
+    pub fn open(octets: &'a [u8]) -> Result<File<'a>, Refusal> {
+        let mut answer = [0; 10];
+        let number = polar_sys::open(octets, &mut answer);
+        Refusal::check(number, answer[0])?;
+        let [_, product, year, month, day, hour, minute, second, site, cuts] = answer;
+        let small = |word: u64| word as u8;
+        let time = Time {
+            year: year as u16,
+            month: small(month),
+            day: small(day),
+            hour: small(hour),
+            minute: small(minute),
+            second: small(second),
+        };
+        let product = if product == 1 { Product::Reflectivity } else { Product::Velocity };
+        Ok(File { octets, product, time, site: site as u16, cuts: cuts as usize })
+    }
+
+    /// The octets that were opened.
+    pub fn octets(&self) -> &'a [u8] {
+        self.octets
+    }
+
+    /// What its values are.
+    pub fn product(&self) -> Product {
+        self.product
+    }
+
+    /// When it was observed.
+    pub fn time(&self) -> Time {
+        self.time
+    }
+
+    /// The radar's site number.
+    pub fn site(&self) -> u16 {
+        self.site
+    }
+
+    /// The number of cuts, 1 to 64.
+    pub fn cut_count(&self) -> usize {
+        self.cuts
+    }
+
+    /// The cut of this index, counted from 0; [`Reason::Argument`](crate::Reason::Argument) where there is none.
+    pub fn cut(&self, index: usize) -> Result<Cut<'a>, Refusal> {
+        let mut answer = [0; 11];
+        let number = polar_sys::cut(self.octets, index, &mut answer);
+        Refusal::check(number, answer[0] as u64)?;
+        let [_, bins, rays, latitude, longitude, spacing, start, azimuth, mode, known, elevation] = answer;
+        Ok(Cut {
+            file: *self,
+            index,
+            bins: bins as usize,
+            rays: rays as usize,
+            latitude,
+            longitude,
+            spacing: spacing as u32,
+            start: start as u32,
+            azimuth: azimuth as u16,
+            mode: mode as u8,
+            elevation: (known == 1).then_some(elevation as i16),
+        })
+    }
+
+    /// All its cuts, in the order of the file.
+    pub fn cuts(&self) -> Cuts<'a> {
+        Cuts { file: *self, left: 0..self.cuts }
+    }
+}
+
+/// The cuts of a file.
+#[derive(Debug, Clone)]
+pub struct Cuts<'a> {
+    file: File<'a>,
+    left: Range<usize>,
+}
+
+impl<'a> Iterator for Cuts<'a> {
+    type Item = Cut<'a>;
+
+    fn next(&mut self) -> Option<Cut<'a>> {
+        self.left.next().map(|index| self.file.cut(index).expect("a cut of an accepted file"))
+    }
+
+    fn size_hint(&self) -> (usize, Option<usize>) {
+        self.left.size_hint()
+    }
+}
+
+impl ExactSizeIterator for Cuts<'_> {}
+impl FusedIterator for Cuts<'_> {}
+
+/// One cut of a file: the rays of one turn of the antenna.
+#[derive(Debug, Clone, Copy)]
+pub struct Cut<'a> {
+    file: File<'a>,
+    index: usize,
+    bins: usize,
+    rays: usize,
+    latitude: i64,
+    longitude: i64,
+    spacing: u32,
+    start: u32,
+    azimuth: u16,
+    mode: u8,
+    elevation: Option<i16>,
+}
+
+impl<'a> Cut<'a> {
+    /// The file that it is a cut of.
+    pub fn file(&self) -> &File<'a> {
+        &self.file
+    }
+
+    /// Its index in the file, counted from 0.
+    pub fn index(&self) -> usize {
+        self.index
+    }
+
+    /// The number of bins on a ray (Nb), 1 to 2048.
+    pub fn bin_count(&self) -> usize {
+        self.bins
+    }
+
+    /// The number of rays (Nr), 1 to 1024.
+    pub fn ray_count(&self) -> usize {
+        self.rays
+    }
+
+    /// The middle's latitude in 10^-6 degrees, north positive.
+    pub fn latitude(&self) -> i64 {
+        self.latitude
+    }
+
+    /// The middle's longitude in 10^-6 degrees.
+    pub fn longitude(&self) -> i64 {
+        self.longitude
+    }
+
+    /// The spacing of the bins (Dx) in millimetres, as the file says it.
+    pub fn spacing(&self) -> u32 {
+        self.spacing
+    }
+
+    /// The distance from the middle to the first bin (Dstart) in millimetres.
+    pub fn start(&self) -> u32 {
+        self.start
+    }
+
+    /// The azimuth at which the first ray starts, in hundredths of a degree from north.
+    pub fn start_azimuth(&self) -> u16 {
+        self.azimuth
+    }
+
+    /// Octet 38 of section 4, the mode of operation: 0, 1, 2, or 255 where it is missing.
+    pub fn mode(&self) -> u8 {
+        self.mode
+    }
+
+    /// The elevation constant in hundredths of a degree; none where it is missing.
+    pub fn elevation(&self) -> Option<i16> {
+        self.elevation
+    }
+
+    /// One ray; [`Reason::Argument`](crate::Reason::Argument) where there is none of this index.
+    ///
+    /// ```
+    /// let file = polar::File::open(include_bytes!("../../../samples/document01.bin"))?;
+    /// let ray = file.cut(0)?.ray(1)?;
+    /// assert_eq!(ray.values().collect::<Vec<_>>(), [Some(4112), Some(0), Some(0), Some(0), None]);
+    /// # Ok::<(), polar::Refusal>(())
+    /// ```
+    pub fn ray(&self, index: usize) -> Result<Ray, Refusal> {
+        let (mut marks, mut values) = (vec![0; self.bins], vec![0; self.bins]);
+        let mut place = [0];
+        let number = polar_sys::ray_values(self.file.octets, self.index, index, &mut marks, &mut values, &mut place);
+        Refusal::check(number, place[0])?;
+        Ok(Ray { index, marks, values })
+    }
+
+    /// The levels of one ray, as they stand in the file; level 0 is missing.
+    pub fn ray_levels(&self, index: usize) -> Result<Vec<u8>, Refusal> {
+        let mut levels = vec![0; self.bins];
+        let mut place = [0];
+        let number = polar_sys::ray_levels(self.file.octets, self.index, index, &mut levels, &mut place);
+        Refusal::check(number, place[0])?;
+        Ok(levels)
+    }
+
+    /// All its rays, in the order of the file.
+    ///
+    /// ```
+    /// let file = polar::File::open(include_bytes!("../../../samples/document01.bin"))?;
+    /// let measured: Vec<usize> = file.cut(0)?.rays().map(|ray| ray.values().flatten().count()).collect();
+    /// assert_eq!(measured, [3, 4]);
+    /// # Ok::<(), polar::Refusal>(())
+    /// ```
+    pub fn rays(&self) -> Rays<'a> {
+        Rays { cut: *self, left: 0..self.rays }
+    }
+
+    /// The value of one bin in dBZ or m/s, or none where it is missing;
+    /// [`Reason::Argument`](crate::Reason::Argument) where there is no such bin.
+    ///
+    /// ```
+    /// let file = polar::File::open(include_bytes!("../../../samples/document01.bin"))?;
+    /// let cut = file.cut(0)?;
+    /// assert_eq!((cut.value(1, 0)?, cut.value(1, 4)?), (Some(41.12), None));
+    /// # Ok::<(), polar::Refusal>(())
+    /// ```
+    pub fn value(&self, ray: usize, bin: usize) -> Result<Option<f64>, Refusal> {
+        let (mut value, mut answer) = (0.0, [0; 2]);
+        let number = polar_sys::bin_value(self.file.octets, self.index, ray, bin, &mut value, &mut answer);
+        Refusal::check(number, answer[0])?;
+        Ok((answer[1] == 1).then_some(value))
+    }
+
+    /// Every longest stretch of one kind on each ray, by ray and then by first bin, at a threshold in hundredths;
+    /// [`Reason::Argument`](crate::Reason::Argument) where that is not from -32767 to 32767.
+    pub fn stretches(&self, threshold: i32) -> Result<Stretches<'a>, Refusal> {
+        Stretches::new(*self, threshold)
+    }
+}
+
+/// One ray of a cut.
+#[derive(Debug, Clone, PartialEq, Eq)]
+pub struct Ray {
+    index: usize,
+    marks: Vec<u8>,
+    values: Vec<i32>,
+}
+
+impl Ray {
+    /// Its index in the cut, counted from 0.
+    pub fn index(&self) -> usize {
+        self.index
+    }
+
+    /// The value of a bin in hundredths; none where it is missing, and where there is no such bin.
+    pub fn value(&self, bin: usize) -> Option<i32> {
+        self.marks.get(bin).filter(|mark| **mark == 1).map(|_| self.values[bin])
+    }
+
+    /// The value of each bin in hundredths; none where it is missing.
+    pub fn values(&self) -> impl ExactSizeIterator<Item = Option<i32>> + '_ {
+        self.marks.iter().zip(&self.values).map(|(mark, value)| (*mark == 1).then_some(*value))
+    }
+}
+
+/// The rays of a cut.
+#[derive(Debug, Clone)]
+pub struct Rays<'a> {
+    cut: Cut<'a>,
+    left: Range<usize>,
+}
+
+impl Iterator for Rays<'_> {
+    type Item = Ray;
+
+    fn next(&mut self) -> Option<Ray> {
+        self.left.next().map(|index| self.cut.ray(index).expect("a ray of an accepted file"))
+    }
+
+    fn size_hint(&self) -> (usize, Option<usize>) {
+        self.left.size_hint()
+    }
+}
+
+impl ExactSizeIterator for Rays<'_> {}
+impl FusedIterator for Rays<'_> {}

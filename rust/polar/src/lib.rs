@@ -1,0 +1,38 @@
+//! Polar weather-radar files (GRIB2, run-length packed), read by a proved library.
+//!
+//! [`File::open`] takes the octets of a whole file and checks all of it. What an accepted file holds is then there by
+//! iterators: its [cuts](File::cuts), their [rays](Cut::rays) and their [stretches](Cut::stretches), the longest
+//! pieces of a ray that are blind, under a threshold, or at or over it. Octets that are no such file get a [`Refusal`] with
+//! document 01's number, a place in the file and a plain sentence.
+//!
+//! A bin that was not measured has no number: its value is `None`, never 0.
+//!
+//! ```
+//! use polar::{File, Kind, HOUSE_THRESHOLD};
+//!
+//! let octets = include_bytes!("../../../samples/document01.bin");
+//! let file = File::open(octets)?;
+//! for cut in file.cuts() {
+//!     for stretch in cut.stretches(HOUSE_THRESHOLD)? {
+//!         println!("{} {} {} {}", stretch.ray, stretch.first, stretch.length, stretch.kind);
+//!     }
+//! }
+//! let blind: usize = file.cut(0)?.stretches(HOUSE_THRESHOLD)?.filter(|s| s.kind == Kind::Missing).map(|s| s.length).sum();
+//! assert_eq!(blind, 3);
+//! # Ok::<(), polar::Refusal>(())
+//! ```
+//!
+//! Every call to the library is lent the whole file and makes all its checks again, so a call's time grows with the file.
+//! Take what is wanted from few calls: a ray's values at once instead of bin by bin, and a cut's stretches instead of its
+//! rays.
+#![forbid(unsafe_code)]
+#![warn(missing_docs)]
+
+mod file;
+mod refusal;
+pub mod runs;
+mod stretches;
+
+pub use file::{Cut, Cuts, File, Product, Ray, Rays, Time};
+pub use refusal::{Reason, Refusal};
+pub use stretches::{Kind, Stretch, Stretches, HOUSE_THRESHOLD};

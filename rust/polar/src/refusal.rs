@@ -1,0 +1,128 @@
+//! Refusals: document 01's numbers, by name.
+use std::error::Error;
+use std::fmt;
+
+/// Why a call was refused: one case for each of document 01's numbers.
+#[derive(Debug, Clone, Copy, PartialEq, Eq, Hash)]
+pub enum Reason {
+    /// 1: the file is under 20 or over 8,388,608 octets.
+    FileSize,
+    /// 2: section 0 is not as it should be.
+    SectionZero,
+    /// 3: a section's length or number cannot stand where it does, or the end is wrong.
+    Sections,
+    /// 4: a section's own length is wrong.
+    SectionLength,
+    /// 5: a named field is outside its rule.
+    Field,
+    /// 6: a point count is not bins times rays.
+    Points,
+    /// 7: the value table differs from the published one.
+    Values,
+    /// 8: data opens above V, or gives more or fewer bins than wanted.
+    Data,
+    /// 9: a 65th cut begins.
+    Cuts,
+    /// 10: an argument is outside its range.
+    Argument,
+    /// 11: lent room is too short.
+    Room,
+    /// 12: V is over 253.
+    V,
+}
+
+impl Reason {
+    const ALL: [Reason; 12] = [
+        Reason::FileSize,
+        Reason::SectionZero,
+        Reason::Sections,
+        Reason::SectionLength,
+        Reason::Field,
+        Reason::Points,
+        Reason::Values,
+        Reason::Data,
+        Reason::Cuts,
+        Reason::Argument,
+        Reason::Room,
+        Reason::V,
+    ];
+
+    /// Document 01's number, 1 to 12.
+    pub fn number(self) -> u32 {
+        self as u32 + 1
+    }
+
+    /// What it means, in a plain sentence.
+    pub fn meaning(self) -> &'static str {
+        match self {
+            Reason::FileSize => "the file is shorter than 20 octets or longer than 8,388,608",
+            Reason::SectionZero => {
+                "this is no radar file, or it was cut short: its first 16 octets are not as they should be, or say another length"
+            }
+            Reason::Sections => "the sections do not follow each other as they should, or the file's end is wrong",
+            Reason::SectionLength => "a section has not the length that it should have",
+            Reason::Field => "a field of a section is outside what it may be",
+            Reason::Points => "a section's number of points is not its bins times its rays",
+            Reason::Values => "the table of values is not the published one",
+            Reason::Data => "the packed data does not give exactly the bins that it should give",
+            Reason::Cuts => "the file has more than 64 cuts",
+            Reason::Argument => "a number that was asked for is outside its range",
+            Reason::Room => "the room for the answer is too short",
+            Reason::V => "the greatest level of packed data is over 253",
+        }
+    }
+}
+
+/// A refusal: why, and where in the file.
+#[derive(Debug, Clone, Copy, PartialEq, Eq, Hash)]
+pub struct Refusal {
+    reason: Reason,
+    place: u64,
+}
+
+impl Refusal {
+    /// The refusal that the library answered, if it did.
+    pub(crate) fn check(number: u32, place: u64) -> Result<(), Refusal> {
+        match number {
+            0 => Ok(()),
+            _ => Err(Refusal { reason: Reason::ALL[number as usize - 1], place }),
+        }
+    }
+
+    /// Why.
+    pub fn reason(self) -> Reason {
+        self.reason
+    }
+
+    /// Document 01's number, 1 to 12.
+    pub fn number(self) -> u32 {
+        self.reason.number()
+    }
+
+    /// The start of the section concerned, counted from 0 in the file; 0 where no section is concerned.
+    pub fn place(self) -> u64 {
+        self.place
+    }
+}
+
+impl fmt::Display for Refusal {
+    fn fmt(&self, f: &mut fmt::Formatter<'_>) -> fmt::Result {
+        write!(f, "refused {} at {}: {}", self.number(), self.place, self.reason.meaning())
+    }
+}
+
+impl Error for Refusal {}
+
+#[cfg(test)]
+mod tests {
+    use super::*;
+
+    #[test]
+    fn numbers_and_reasons_belong_together() {
+        for (reason, number) in Reason::ALL.into_iter().zip(1..) {
+            assert_eq!(reason.number(), number);
+            assert_eq!(Refusal::check(number, 7), Err(Refusal { reason, place: 7 }));
+        }
+        assert_eq!(Refusal::check(0, 0), Ok(()));
+    }
+}

@@ -1,0 +1,58 @@
+//! Run-length packed levels, without a file.
+use crate::Refusal;
+
+/// The most levels that are taken.
+pub const MOST_LEVELS: usize = 2_097_152;
+
+/// Levels as run-length octets.
+#[derive(Debug, Clone, PartialEq, Eq)]
+pub struct Packed {
+    /// The greatest level, under which the octets are read.
+    pub v: u8,
+    /// The octets.
+    pub octets: Vec<u8>,
+}
+
+/// Whether octets give exactly `n` levels under `v`, without writing them anywhere.
+///
+/// ```
+/// assert!(polar::runs::check(&[3, 11, 12], 10, 246).is_ok());
+/// assert_eq!(polar::runs::check(&[3, 11, 12], 10, 245).unwrap_err().number(), 8);
+/// ```
+pub fn check(octets: &[u8], v: u8, n: usize) -> Result<(), Refusal> {
+    Refusal::check(polar_sys::run_check(octets, v, n), 0)
+}
+
+/// The `n` levels that octets give under `v`.
+///
+/// ```
+/// assert_eq!(polar::runs::read(&[7, 255, 255], 252, 9)?, [7; 9]);
+/// # Ok::<(), polar::Refusal>(())
+/// ```
+pub fn read(octets: &[u8], v: u8, n: usize) -> Result<Vec<u8>, Refusal> {
+    // where n is over the limit the call is refused before it looks at the room
+    let mut levels = vec![0; if n > MOST_LEVELS { 0 } else { n }];
+    let mut place = [0];
+    let number = polar_sys::run_read(octets, v, n, &mut levels, &mut place);
+    Refusal::check(number, place[0])?;
+    Ok(levels)
+}
+
+/// The octets of levels from 0 to 252. Read under their `v` they give the same levels.
+///
+/// ```
+/// let packed = polar::runs::write(&[252; 10])?;
+/// assert_eq!((packed.v, &packed.octets[..]), (252, &[252, 253, 253, 254][..]));
+/// assert_eq!(polar::runs::read(&packed.octets, packed.v, 10)?, [252; 10]);
+/// # Ok::<(), polar::Refusal>(())
+/// ```
+pub fn write(levels: &[u8]) -> Result<Packed, Refusal> {
+    // octets are never more than the levels they stand for: a run of n bins takes at most n
+    let mut octets = vec![0; levels.len()];
+    let mut answer = [0; 3];
+    let number = polar_sys::run_write(levels, &mut octets, &mut answer);
+    let [place, v, length] = answer;
+    Refusal::check(number, place)?;
+    octets.truncate(length as usize);
+    Ok(Packed { v: v as u8, octets })
+}

@@ -1,0 +1,361 @@
+//! Files with the verdict that document 01 gives each, said by hand: every named field one below, at and one past each end
+//! of its range, every length one off, the order of sections, the order of checks, the limits.
+use crate::layout::MOST_CUTS;
+use crate::maker::{assemble, set_total, CutPlan, Plan, Section};
+use crate::published::Product;
+
+pub struct Case {
+    pub name: String,
+    pub file: Vec<u8>,
+    /// the refusal's number and place, or none where the file is accepted
+    pub verdict: Option<(u32, usize)>,
+}
+
+/// A field of a section, values inside its rule and values outside.
+struct Field {
+    section: u8,
+    first: usize,
+    width: usize,
+    inside: &'static [u64],
+    outside: &'static [u64],
+}
+
+const fn field(section: u8, first: usize, width: usize, inside: &'static [u64], outside: &'static [u64]) -> Field {
+    Field { section, first, width, inside, outside }
+}
+
+/// The sign of a number of two and of four octets.
+const MINUS16: u64 = 1 << 15;
+const MINUS32: u64 = 1 << 31;
+const ONES16: u64 = 0xFFFF;
+const ONES32: u64 = 0xFFFF_FFFF;
+
+/// All fields whose rule stands alone.
+const FIELDS: [Field; 38] = [
+    field(1, 6, 2, &[34], &[0, 33, 35, ONES16]),
+    field(1, 8, 2, &[0], &[1, 256, ONES16]),
+    field(1, 10, 2, &[0, ONES16], &[]),
+    field(1, 12, 1, &[3], &[2, 4, 255]),
+    field(1, 13, 2, &[1000, 9999], &[0, 999, 10000, ONES16]),
+    field(1, 15, 1, &[1, 12], &[0, 13, 255]),
+    field(1, 16, 1, &[1, 31], &[0, 32, 255]),
+    field(1, 17, 1, &[0, 23], &[24, 255]),
+    field(1, 18, 1, &[0, 59], &[60, 255]),
+    field(1, 19, 1, &[0, 59], &[60, 255]),
+    field(1, 20, 1, &[0], &[1, 255]),
+    field(1, 21, 1, &[7], &[6, 8, 255]),
+    field(3, 6, 1, &[0], &[1, 255]),
+    field(3, 11, 1, &[0], &[1, 255]),
+    field(3, 12, 1, &[0], &[1, 255]),
+    field(3, 13, 2, &[50120], &[0, 50119, 50121, ONES16]),
+    field(3, 23, 4, &[0, 90_000_000, MINUS32, MINUS32 + 90_000_000], &[90_000_001, MINUS32 - 1, MINUS32 + 90_000_001, ONES32]),
+    field(3, 27, 4, &[0, 360_000_000], &[360_000_001, MINUS32, ONES32]),
+    field(3, 31, 4, &[1, 50000, ONES32], &[0]),
+    field(3, 35, 4, &[0, 1, ONES32], &[]),
+    field(3, 39, 1, &[0], &[1, 255]),
+    field(3, 40, 2, &[0, 36000], &[36001, ONES16]),
+    field(4, 6, 2, &[0], &[1, 256, ONES16]),
+    field(4, 8, 2, &[51022], &[0, 51021, 51023, ONES16]),
+    field(4, 10, 1, &[15], &[14, 16, 255]),
+    field(4, 11, 1, &[1], &[0, 3, 255]),
+    field(4, 12, 1, &[8], &[7, 9, 255]),
+    field(4, 13, 1, &[1], &[0, 2, 255]),
+    field(4, 14, 1, &[13], &[12, 14, 255]),
+    field(4, 15, 8, &[0, u64::MAX], &[]),
+    field(4, 29, 2, &[0, ONES16], &[]),
+    field(4, 38, 1, &[0, 1, 2, 255], &[3, 128, 254]),
+    field(4, 42, 2, &[0, 9000, MINUS16, MINUS16 + 9000, ONES16], &[9001, MINUS16 - 1, MINUS16 + 9001, ONES16 - 1]),
+    field(4, 61, 4, &[0, ONES32], &[]),
+    field(5, 10, 2, &[200], &[0, 199, 201, ONES16]),
+    field(5, 12, 1, &[8], &[7, 9, 255]),
+    field(5, 17, 1, &[2], &[1, 3, 255]),
+    field(6, 6, 1, &[255], &[0, 254]),
+];
+
+/// The place of section `index` in the file of these sections.
+fn place_of(sections: &[Section], index: usize) -> usize {
+    16 + sections[..index].iter().map(|s| s.octets.len()).sum::<usize>()
+}
+
+fn index_of(sections: &[Section], number: u8) -> usize {
+    sections.iter().position(|s| s.number() == number).expect("a section of this number")
+}
+
+#[derive(Default)]
+struct Cases(Vec<Case>);
+
+impl Cases {
+    fn add(&mut self, name: impl Into<String>, file: Vec<u8>, verdict: Option<(u32, usize)>) {
+        self.0.push(Case { name: name.into(), file, verdict });
+    }
+
+    /// A case for a change to the first section of a number: accepted, or refused at that section.
+    fn change(&mut self, name: impl Into<String>, plan: &Plan, number: u8, refusal: Option<u32>, change: impl FnOnce(&mut Section)) {
+        let mut sections = plan.sections();
+        let at = index_of(&sections, number);
+        let place = place_of(&sections, at);
+        change(&mut sections[at]);
+        self.add(name, assemble(&sections), refusal.map(|n| (n, place)));
+    }
+
+    /// A case for other sections than the plan's: accepted, or refused at section `at` of them.
+    fn sections(&mut self, name: impl Into<String>, sections: &[Section], refusal: Option<(u32, usize)>) {
+        self.add(name, assemble(sections), refusal.map(|(number, at)| (number, place_of(sections, at))));
+    }
+
+    fn fields(&mut self, plan: &Plan) {
+        for f in &FIELDS {
+            let both = [(f.inside, None), (f.outside, Some(5))];
+            for (value, refusal) in both.iter().flat_map(|(values, refusal)| values.iter().map(move |v| (*v, *refusal))) {
+                let name = format!("section {} octet {} is {value}", f.section, f.first);
+                self.change(name, plan, f.section, refusal, |s| s.put(f.first, f.width, value));
+            }
+        }
+    }
+
+    fn lengths(&mut self, plan: &Plan) {
+        for number in [1, 3, 4, 6] {
+            for (less, more) in [(1, 0), (0, 1), (0, 4)] {
+                let name = format!("section {number} with {less} octets less, {more} more");
+                self.change(name, plan, number, Some(4), |s| s.resize(s.octets.len() - less + more));
+            }
+        }
+        for len in [5, 16, 17, 520, 522] {
+            self.change(format!("section 5 of {len} octets"), plan, 5, Some(4), |s| s.resize(len));
+        }
+        self.change("section 7 of 5 octets", plan, 7, Some(4), |s| s.resize(5));
+        self.change("section 7 of 6 octets", plan, 7, Some(8), |s| s.resize(6));
+        for number in [1, 3, 4, 5, 6, 7] {
+            for length in [0, 4, ONES32, 1 << 31] {
+                self.change(format!("section {number} said to be {length} long"), plan, number, Some(3), |s| s.put(1, 4, length));
+            }
+        }
+        // section 7 is the last: one octet more reaches into the last four
+        self.change("section 7 said to be one longer", plan, 7, Some(3), |s| s.put(1, 4, s.octets.len() as u64 + 1));
+    }
+
+    fn points(&mut self) {
+        for (bins, rays) in [(1, 1), (1, 1024), (2048, 1), (2048, 1024)] {
+            let plan = Plan::new(Product::Reflectivity, vec![CutPlan::of_levels(bins, rays, &vec![0; bins * rays])]);
+            self.add(format!("{bins} bins of {rays} rays"), plan.file(), None);
+        }
+        for (bins, rays) in [(0, 1), (1, 0), (2049, 1), (1, 1025), (65536, 65536), (ONES32 as usize, 1)] {
+            let plan = Plan::new(Product::Reflectivity, vec![CutPlan::of_levels(1, 1, &[0])]);
+            self.change(format!("{bins} bins of {rays} rays"), &plan, 3, Some(5), |s| {
+                s.put(15, 4, bins as u64);
+                s.put(19, 4, rays as u64);
+                s.put(7, 4, bins as u64 * rays as u64);
+            });
+        }
+        let plan = Plan::new(Product::Velocity, vec![CutPlan::of_levels(5, 2, &[3; 10])]);
+        for points in [0, 9, 11, ONES32] {
+            self.change(format!("section 3 says {points} points"), &plan, 3, Some(6), |s| s.put(7, 4, points));
+            self.change(format!("section 5 says {points} points"), &plan, 5, Some(6), |s| s.put(6, 4, points));
+        }
+        let mut sections = plan.sections();
+        sections[1].put(15, 4, 2);
+        sections[1].put(19, 4, 5);
+        self.sections("bins and rays exchanged", &sections, Some((4, 2)));
+    }
+
+    fn values(&mut self) {
+        for product in Product::BOTH {
+            let m = u64::from(product.levels());
+            let levels: Vec<u8> = (0..=product.levels() as u8).collect();
+            let plan = Plan::new(product, vec![CutPlan::of_levels(levels.len(), 1, &levels)]);
+            self.add(format!("all levels of {product:?}"), plan.file(), None);
+            for level in 1..=product.levels() as usize {
+                for (from, change) in [(16, 0x80), (16, 1), (17, 1), (17, 0x80)] {
+                    self.change(format!("value of level {level}, bit {change}"), &plan, 5, Some(7), |s| {
+                        s.octets[from + 2 * level - 1] ^= change
+                    });
+                }
+            }
+            self.change("minus zero in the table", &plan, 5, Some(7), |s| s.put(18, 2, MINUS16));
+            for v in [m + 1, 256, ONES16] {
+                self.change(format!("V is {v}"), &plan, 5, Some(5), |s| s.put(13, 2, v));
+            }
+            for other in [m - 1, m + 1] {
+                self.change(format!("M is {other}, as the length"), &plan, 5, Some(5), |s| {
+                    s.resize(17 + 2 * other as usize);
+                    s.put(13, 2, 0);
+                    s.put(15, 2, other);
+                });
+                self.change(format!("M is {other}, not as the length"), &plan, 5, Some(4), |s| s.put(15, 2, other));
+            }
+            // an octet above V opens no run; V need not occur
+            for v in [0, 1, 100, m] {
+                let mut cut = CutPlan::of_data(1, 1, v as u16, vec![0]);
+                self.add(format!("V is {v} and does not occur"), Plan::new(product, vec![cut.clone()]).file(), None);
+                cut.data = vec![v as u8 + 1];
+                let plan = Plan::new(product, vec![cut]);
+                self.change(format!("V is {v} and the data opens above it"), &plan, 7, Some(8), |_| ());
+            }
+        }
+    }
+
+    /// The second cut's product and site are those of the first.
+    fn later_cuts(&mut self) {
+        let mut cut = CutPlan::of_levels(3, 2, &[1; 6]);
+        let own = cut.clone();
+        cut.own_grid = false;
+        let plan = Plan::new(Product::Reflectivity, vec![own.clone(), cut.clone(), own, cut]);
+        let sections = plan.sections();
+        self.sections("cuts with and without a section 3", &sections, None);
+        for (at, first, width, value) in [(6, 11, 1, 2), (6, 29, 2, 0), (11, 11, 1, 2), (11, 29, 2, 47696), (15, 29, 2, ONES16)] {
+            let mut sections = sections.clone();
+            assert_eq!(sections[at].number(), 4);
+            sections[at].put(first, width, value);
+            self.sections(format!("section {at} octet {first} is {value}"), &sections, Some((5, at)));
+        }
+        // a later cut's own section 3 may say another grid
+        let wide = CutPlan::of_levels(7, 1, &[1; 7]);
+        let mut plan = Plan::new(Product::Velocity, vec![plan.cuts[0].clone(), wide]);
+        self.add("two grids", plan.file(), None);
+        plan.cuts.swap(0, 1);
+        self.add("two grids, the other first", plan.file(), None);
+        plan.cuts[1].own_grid = false;
+        let sections = plan.sections();
+        self.sections("a cut under another's grid", &sections, Some((4, 6)));
+    }
+
+    fn orders(&mut self) {
+        let plan = Plan::new(Product::Reflectivity, vec![CutPlan::of_levels(2, 1, &[1, 2])]);
+        let sections = plan.sections();
+        let [one, three, four, five, six, seven] = &sections[..] else { unreachable!("one cut") };
+        self.add("no section", assemble(&[]), Some((3, 16)));
+        for (name, order, at) in [
+            ("section 1 alone", vec![one], 1),
+            ("no section 1", vec![three, four, five, six, seven], 0),
+            ("two sections 1", vec![one, one, three, four, five, six, seven], 1),
+            ("no section 3", vec![one, four, five, six, seven], 1),
+            ("two sections 3", vec![one, three, three, four, five, six, seven], 2),
+            ("two sections 4", vec![one, three, four, four, five, six, seven], 3),
+            ("two sections 5", vec![one, three, four, five, five, six, seven], 4),
+            ("two sections 6", vec![one, three, four, five, six, six, seven], 5),
+            ("two sections 7", vec![one, three, four, five, six, seven, seven], 6),
+            ("no section 4", vec![one, three, five, six, seven], 2),
+            ("no section 5", vec![one, three, four, six, seven], 3),
+            ("no section 6", vec![one, three, four, five, seven], 4),
+            ("no section 7", vec![one, three, four, five, six], 5),
+            ("a section 1 at the end", vec![one, three, four, five, six, seven, one], 6),
+            ("a section 3 at the end", vec![one, three, four, five, six, seven, three], 7),
+            ("a section 5 after 7", vec![one, three, four, five, six, seven, five, six, seven], 6),
+        ] {
+            let order: Vec<Section> = order.into_iter().cloned().collect();
+            self.sections(name, &order, Some((3, at)));
+        }
+        for number in [0, 2, 8, 9, 255] {
+            let mut sections = sections.clone();
+            for at in 0..sections.len() {
+                let kept = sections[at].number();
+                sections[at].put(5, 1, number);
+                self.sections(format!("section {at} numbered {number}"), &sections, Some((3, at)));
+                sections[at].put(5, 1, kept.into());
+            }
+        }
+        let sound = assemble(&sections);
+        let end = sound.len() - 4;
+        for at in end..sound.len() {
+            let mut file = sound.clone();
+            file[at] ^= 1;
+            self.add("a wrong section 8", file, Some((3, end)));
+        }
+        for left in 1..=4 {
+            let mut file = sound.clone();
+            file.splice(end..end, vec![0; left]);
+            set_total(&mut file);
+            self.add(format!("{left} octets before the last four"), file, Some((3, end)));
+        }
+        let mut file = sound.clone();
+        file.splice(end..end, [0, 0, 0, 5, 3]);
+        set_total(&mut file);
+        self.add("a section 3 of five octets before the last four", file, Some((4, end)));
+    }
+
+    /// Where one section breaks several rules, the first by the order 3, 9, 4, 5, 6, 7, 8 counts.
+    fn order_of_checks(&mut self) {
+        let plan = Plan::new(Product::Reflectivity, vec![CutPlan::of_levels(2, 1, &[1, 2])]);
+        self.change("3 before 4", &plan, 3, Some(3), |s| {
+            s.resize(42);
+            s.put(5, 1, 4);
+        });
+        self.change("4 before 5", &plan, 3, Some(4), |s| {
+            s.put(6, 1, 1);
+            s.resize(42);
+        });
+        self.change("5 before 6", &plan, 3, Some(5), |s| {
+            s.put(7, 4, 0);
+            s.put(40, 2, 36001);
+        });
+        self.change("5 before 6 and 7", &plan, 5, Some(5), |s| {
+            s.put(6, 4, 0);
+            s.put(18, 2, 1);
+            s.put(17, 1, 1);
+        });
+        self.change("6 before 7", &plan, 5, Some(6), |s| {
+            s.put(6, 4, 0);
+            s.put(18, 2, 1);
+        });
+    }
+
+    fn ends(&mut self) {
+        let sound = Plan::new(Product::Velocity, vec![CutPlan::of_levels(2, 1, &[1, 2])]).file();
+        for len in [0, 19] {
+            self.add(format!("{len} octets"), sound[..len].to_vec(), Some((1, 0)));
+        }
+        self.add("20 octets", sound[..20].to_vec(), Some((2, 0)));
+        self.add("20 octets of a file of no section", assemble(&[]), Some((3, 16)));
+        for at in (0..4).chain(6..16) {
+            let mut file = sound.clone();
+            file[at] ^= 1;
+            self.add(format!("section 0 octet {} changed", at + 1), file, Some((2, 0)));
+        }
+        let mut file = sound;
+        file[4..6].copy_from_slice(&[0, 0]);
+        self.add("section 0 octets 5 and 6 are not named", file, None);
+    }
+
+    fn many_cuts(&mut self) {
+        let mut plan = Plan::new(Product::Reflectivity, vec![CutPlan::of_levels(2, 1, &[1, 2]); MOST_CUTS]);
+        self.add("64 cuts", plan.file(), None);
+        plan.cuts.push(plan.cuts[0].clone());
+        let sections = plan.sections();
+        self.sections("65 cuts", &sections, Some((9, 1 + 5 * MOST_CUTS)));
+        let mut spoiled = sections.clone();
+        spoiled[1 + 5 * MOST_CUTS].resize(40);
+        self.sections("a 65th cut: 9 before 4", &spoiled, Some((9, 1 + 5 * MOST_CUTS)));
+        spoiled[1 + 5 * MOST_CUTS].put(5, 1, 5);
+        self.sections("a 65th cut: 3 before 9", &spoiled, Some((3, 1 + 5 * MOST_CUTS)));
+        plan.cuts[MOST_CUTS].own_grid = false;
+        self.sections("65 cuts, the last with no section 3", &plan.sections(), Some((9, 1 + 5 * MOST_CUTS)));
+    }
+
+    /// Files at the limit of 8,388,608 octets and one past it: the data ends in a tail of zero digits.
+    fn largest(&mut self) {
+        let file_of = |tail: usize| {
+            let data = [vec![1, 3], vec![2; tail]].concat();
+            Plan::new(Product::Velocity, vec![CutPlan::of_data(2, 1, 1, data)]).file()
+        };
+        let least = file_of(0).len();
+        self.add("8,388,608 octets", file_of(crate::layout::GREATEST_FILE - least), None);
+        self.add("8,388,609 octets", file_of(crate::layout::GREATEST_FILE - least + 1), Some((1, 0)));
+    }
+}
+
+/// Every case.
+pub fn all() -> Vec<Case> {
+    let small = Plan::new(Product::Reflectivity, vec![CutPlan::of_levels(5, 2, &[0, 0, 130, 130, 130, 130, 1, 1, 1, 0])]);
+    let mut cases = Cases::default();
+    cases.fields(&small);
+    cases.lengths(&small);
+    cases.points();
+    cases.values();
+    cases.later_cuts();
+    cases.orders();
+    cases.order_of_checks();
+    cases.ends();
+    cases.many_cuts();
+    cases.largest();
+    cases.0
+}

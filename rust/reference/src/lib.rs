@@ -1,0 +1,40 @@
+//! A second view of what polar radar files mean, written from document 01 alone and by other means than the proved
+//! library: whole decoded cuts, iterators, no concern for speed. The tests hold the proved library to it.
+//!
+//! * [`octets`], [`published`], [`runs`]: numbers in a file, published values, the run-length rule
+//! * [`layout`]: which octets are an accepted file, and how any others are refused
+//! * [`calls`], [`stretches`], [`lister`]: document 01's calls and the text of the list
+//! * [`maker`], [`shapes`], [`scene`], [`cases`], [`spoil`]: made files, random sound ones, weather, files with their verdicts,
+//!   spoiled files
+//! * [`samples`]: what samples/ and the two programs' crates store
+//! * [`numbers`]: numbers that look random and are the same in every run
+pub mod calls;
+pub mod cases;
+pub mod layout;
+pub mod lister;
+pub mod maker;
+pub mod numbers;
+pub mod octets;
+pub mod published;
+pub mod runs;
+pub mod samples;
+pub mod scene;
+pub mod shapes;
+pub mod spoil;
+pub mod stretches;
+
+/// One of document 01's refusal numbers, with its place.
+#[derive(Debug, Clone, Copy, PartialEq, Eq)]
+pub struct Refusal {
+    pub number: u32,
+    pub place: u64,
+}
+
+/// A refusal that concerns no section.
+pub(crate) fn refused<T>(number: u32) -> Result<T, Refusal> {
+    refused_at(number, 0)
+}
+
+pub(crate) fn refused_at<T>(number: u32, place: usize) -> Result<T, Refusal> {
+    Err(Refusal { number, place: place as u64 })
+}

@@ -1,0 +1,17 @@
+/* CHECK(condition): counts it, and says where it failed. */
+#ifndef CHECK_H
+#define CHECK_H
+
+#include <stdio.h>
+
+static int checks_failed = 0;
+
+#define CHECK(condition)                                                  \
+    do {                                                                  \
+        if (!(condition)) {                                               \
+            checks_failed++;                                              \
+            printf("%s:%d: not so: %s\n", __FILE__, __LINE__, #condition); \
+        }                                                                 \
+    } while (0)
+
+#endif

@@ -1,0 +1,109 @@
+/* The file calls from C on the sample of document 01, whose path is the first argument. */
+#include "check.h"
+#include "polar.h"
+
+#include <string.h>
+
+static uint8_t file[1024];
+static size_t len;
+
+static void opening(void)
+{
+    uint64_t answer[10];
+    int64_t cut[11];
+    size_t i;
+
+    CHECK(len == 689);
+    CHECK(polar_open(file, len, answer) == 0);
+    CHECK(answer[0] == 0 && answer[1] == POLAR_REFLECTIVITY && answer[9] == 1);
+    CHECK(answer[2] == 2026 && answer[3] == 6 && answer[4] == 14 && answer[8] == 47695);
+    CHECK(polar_cut(file, len, 0, cut) == 0);
+    CHECK(cut[0] == 0 && cut[1] == 5 && cut[2] == 2 && cut[5] == 500000 && cut[9] == 1 && cut[10] == 130);
+
+    for (i = 0; i < 11; i++)
+        cut[i] = -77;
+    CHECK(polar_cut(file, len, 1, cut) == POLAR_ARGUMENT);
+    CHECK(cut[0] == 0 && cut[1] == -77 && cut[10] == -77);
+    for (i = 0; i < 10; i++)
+        answer[i] = 77;
+    CHECK(polar_open(file, len - 1, answer) == POLAR_SECTION_0);
+    CHECK(answer[0] == 0 && answer[1] == 77 && answer[9] == 77);
+    CHECK(polar_open(file, 19, answer) == POLAR_FILE_SIZE);
+
+    /* the month of section 1, which begins at 16 */
+    file[16 + 14] = 13;
+    CHECK(polar_open(file, len, answer) == POLAR_FIELD);
+    CHECK(answer[0] == 16);
+    file[16 + 14] = 6;
+}
+
+static void rays(void)
+{
+    const uint8_t expected[] = {130, 1, 1, 1, 0, 9};
+    uint8_t levels[] = {9, 9, 9, 9, 9, 9};
+    uint8_t marks[] = {9, 9, 9, 9, 9, 9};
+    int32_t values[] = {9, 9, 9, 9, 9, 9};
+    uint64_t place[1], answer[2];
+    double value = -1.0;
+
+    CHECK(polar_ray_levels(file, len, 0, 1, levels, 4, place) == POLAR_ROOM);
+    CHECK(polar_ray_levels(file, len, 0, 2, levels, 6, place) == POLAR_ARGUMENT);
+    CHECK(place[0] == 0 && levels[0] == 9);
+    CHECK(polar_ray_levels(file, len, 0, 1, levels, 6, place) == 0);
+    CHECK(memcmp(levels, expected, sizeof expected) == 0);
+    CHECK(polar_ray_values(file, len, 0, 1, marks, 6, values, 6, place) == 0);
+    CHECK(marks[0] == 1 && marks[3] == 1 && marks[4] == 0 && marks[5] == 9);
+    CHECK(values[0] == 4112 && values[1] == 0 && values[4] == 9 && values[5] == 9);
+
+    /* level 0 never gets a number */
+    CHECK(polar_bin_value(file, len, 0, 1, 4, &value, answer) == 0);
+    CHECK(answer[0] == 0 && answer[1] == 0 && value == -1.0);
+    CHECK(polar_bin_value(file, len, 0, 1, 0, &value, answer) == 0);
+    CHECK(answer[1] == 1 && value == 41.12);
+    CHECK(polar_bin_value(file, len, 0, 1, 5, &value, answer) == POLAR_ARGUMENT);
+}
+
+static void stretches(void)
+{
+    const uint32_t expected[] = {0, 0, 2, POLAR_MISSING, 0, 2, 3, POLAR_OVER,    1, 0, 1,
+                                 POLAR_OVER, 1, 1, 3, POLAR_UNDER, 1, 4, 1, POLAR_MISSING};
+    uint32_t words[POLAR_ENTRY_WORDS], all[21];
+    uint64_t answer[4];
+    size_t ray = 0, bin = 0, found = 0;
+
+    /* in portions of one entry */
+    while (ray != 2 && found < 5) {
+        CHECK(polar_house_stretches(file, len, 0, ray, bin, words, POLAR_ENTRY_WORDS, answer) == 0);
+        CHECK(answer[0] == 0 && answer[1] == 1);
+        CHECK(memcmp(words, expected + 4 * found, sizeof words) == 0);
+        found++;
+        ray = (size_t)answer[2];
+        bin = (size_t)answer[3];
+    }
+    CHECK(found == 5 && ray == 2 && bin == 0);
+
+    /* whole */
+    all[20] = 77;
+    CHECK(polar_stretches(file, len, 0, POLAR_HOUSE_THRESHOLD, 0, 0, all, 21, answer) == 0);
+    CHECK(answer[1] == 5 && answer[2] == 2 && answer[3] == 0 && all[20] == 77);
+    CHECK(memcmp(all, expected, sizeof expected) == 0);
+    CHECK(polar_stretches(file, len, 0, 32768, 0, 0, all, 21, answer) == POLAR_ARGUMENT);
+    CHECK(polar_stretches(file, len, 0, 0, 0, 0, all, 3, answer) == POLAR_ROOM);
+    CHECK(answer[0] == 0 && answer[1] == 5);
+}
+
+int main(int argc, char **argv)
+{
+    FILE *sample = argc > 1 ? fopen(argv[1], "rb") : NULL;
+
+    if (sample == NULL) {
+        puts("no sample file");
+        return 2;
+    }
+    len = fread(file, 1, sizeof file, sample);
+    fclose(sample);
+    opening();
+    rays();
+    stretches();
+    return checks_failed != 0;
+}
