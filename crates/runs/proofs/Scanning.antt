@@ -7,8 +7,9 @@ use mathlib.Core.List.{List, [], _∷_}
 use native.Mathlib.Nat.{pow-zero}
 use native.Mathlib.Omega.{arith}
 use lib.ListN.{length, drop, getD, drop-of-length-le}
+use lib.Seq.{take-all}
 use lib.Dec.{leb, ltb, eqb}
-use borrow.Author.Tests.{le-leb, lt-leb, lt-ltb, le-ltb, ne-eqb}
+use borrow.Author.Tests.{le-leb, lt-leb, lt-ltb, le-ltb, eq-eqb, ne-eqb}
 use Rattle.runs.specs.Run.{base, levels, gives, scanned}
 use Rattle.runs.specs.declared.Scan.{Scan}
 use Rattle.runs.specs.declared.Scan.the-variants.{Exact, Off}
@@ -104,6 +105,16 @@ module _ (v n : ℕ) (low : v ≤ 253) where
       ∙ same-verdict n total
       ∙ ap (λ (b : Bool). cond b Exact Off) (sym (gives-level v n o s h)))
       (λ h. atRun-above v n 0 1 o s h ∙ ap (λ (b : Bool). cond b Exact Off) (sym (gives-above v n o s h)))
+
+-- no octets give no bins
+pub none-given : (v n : ℕ) (s : List ℕ) → length s ≡ 0 → scanned v n s ≡ verdict n 0
+none-given v n s h = ap (λ (l : List ℕ). scanned v n l) (sym (take-all 0 s (omega arith))) ∙ ap (λ (b : Bool). cond b Exact Off) (gives-nil v n)
+
+pub all-read : (n bins : ℕ) → bins ≡ n → verdict n bins ≡ Exact
+all-read n bins e = simp (eq-eqb bins n e)
+
+pub too-few : (n bins : ℕ) → (bins ≡ n → ⊥) → verdict n bins ≡ Off
+too-few n bins e = simp (ne-eqb bins n e)
 
 -- ---- the pass along the octets, i the place of the next one: X is the answer for the whole
 module _ (v n bins w : ℕ) (octets : List ℕ) (i : ℕ) (X : Scan) where

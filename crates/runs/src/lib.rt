@@ -15,27 +15,31 @@ pub enum Scan {
     Off,
 }
 
-// One pass over the octets, runs outside and digits inside; an octet above V where a run has to open, or bins past n, leave it at once.
+// One pass over the octets, runs outside and digits inside: an octet that opens no run, or bins past n, leave it at once.
 // The weight grows no more once it is over n: a digit other than zero then passes n, and a tail of zero digits cannot overflow it.
 pub fn scan_runs(octets: &[u8], v: u8, n: usize) -> Scan
     requires { ⌜ (v ≤ 253) × (n ≤ 2097152) ⌝ }
     ensures { λ r. ⌜ r ≡ scanned v n (now (octets .entry)) ⌝ }
 {
+    if octets.len() == 0 {
+        if n == 0 {
+            return Scan::Exact;
+        }
+        return Scan::Off;
+    }
     let base = 255 - v as usize; // B
     let mut i: usize = 0;
     let mut bins: usize = 0;
-    'runs: while i < octets.len() {
-        if v < octets[i] {
-            break 'runs;
-        }
-        if n <= bins {
-            break 'runs;
-        }
+    let mut o = octets[0];
+    'runs: while o <= v {
         bins += 1;
         i += 1;
+        if n < bins {
+            break 'runs;
+        }
         let mut weight: usize = 1;
         'digits: while i < octets.len() {
-            let o = octets[i];
+            o = octets[i];
             if o <= v {
                 continue 'runs;
             }
@@ -48,6 +52,7 @@ pub fn scan_runs(octets: &[u8], v: u8, n: usize) -> Scan
                 weight *= base;
             }
         }
+        break 'runs;
     }
     if i < octets.len() {
         return Scan::Off;
