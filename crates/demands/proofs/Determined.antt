@@ -1,5 +1,5 @@
 -- Two outcomes that a promise allows are equal: the answer is a function of what was lent, and lent memory one of the answer.
-use Prim.Native.Nat.{ℕ, min}
+use Prim.Native.Nat.{ℕ}
 use mathlib.Core.Path.{_≡_, sym, _∙_, ap}
 use mathlib.Core.List.{List}
 use lib.IntN.{ℤ}
@@ -28,10 +28,11 @@ pub values-one : {s : List ℕ} {i ray : ℕ} {marks marks′ marks″ : List �
     → ValuesPromise s i ray marks values r marks′ values′ → ValuesPromise s i ray marks values r′ marks″ values″
     → (r ≡ r′) × (marks′ ≡ marks″) × (values′ ≡ values″)
 values-one {s} {i} {ray} {marks} {values = values} p q =
-    let e = p .answer ∙ sym (q .answer) in
-    (e,
-    p .marked ∙ ap (λ (a : RayAnswer). marksAfter a s i ray marks) e ∙ sym (q .marked),
-    p .valued ∙ ap (λ (a : RayAnswer). valuesAfter a s i ray values) e ∙ sym (q .valued))
+    let e = p .answer ∙ sym (q .answer) in (
+      e,
+      p .marked ∙ ap (λ (a : RayAnswer). marksAfter a s i ray marks) e ∙ sym (q .marked),
+      p .valued ∙ ap (λ (a : RayAnswer). valuesAfter a s i ray values) e ∙ sym (q .valued),
+    )
 
 pub bin-one : {s : List ℕ} {i ray bin : ℕ} {r r′ : BinAnswer} → BinPromise s i ray bin r → BinPromise s i ray bin r′ → r ≡ r′
 bin-one p q = p .answer ∙ sym (q .answer)
