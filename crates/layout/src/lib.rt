@@ -149,7 +149,7 @@ fn ends_by(at: usize, n: usize, end: usize) -> bool
 }
 
 // The place past the section at a place.
-fn end_at(s: &[u8], at: usize) -> usize
+pub fn end_at(s: &[u8], at: usize) -> usize
     requires { ⌜ at + lengthAt (now s) at ≤ length (now s) ⌝ }
     ensures { λ r. ⌜ r ≡ at + lengthAt (now (s .entry)) at ⌝ }
 {

@@ -5,9 +5,8 @@ use mathlib.Core.List.{List, [], _∷_, _++_}
 use native.Mathlib.Omega.{arith}
 use lib.ListN.{length, take, drop, set, length-append, length-drop}
 use lib.Seq.{take-add, drop-drop, take-append-seam, length-take-le}
-use Rattle.runs.specs.Lent.{front}
+use Rattle.runs.specs.Lent.{front, placed}
 use Rattle.packing.specs.Write.{written}
-use Rattle.runs.specs.Lent.{placed}
 use Rattle.runs.proofs.Lent.{placed-more, placed-front}
 
 -- ---- a part of a list grows by what comes next

@@ -99,7 +99,7 @@ fn put_all(levels: &[u8], v: u8, out: &mut [u8]) -> usize
     ensures { λ r. ⌜ r ≡ length (written v (now (levels .entry))) ⌝ }
     ensures { λ _. ⌜ now (out .exit) ≡ front (written v (now (levels .entry))) (now (out .entry)) ⌝ }
 {
-    if levels.len() == 0 {
+    if levels.len() == 0 { // no levels give no octets
         return 0;
     }
     let mut x = levels[0];

@@ -103,14 +103,9 @@ pub record RunHere (v : ℕ) (s : List ℕ) (at cap level len next : ℕ) : Type
   pub opened : opens v (drop next s) ≡ true
   pub row : levels v (drop at s) ≡ replicate len level ++ levels v (drop next s)
 
--- a run, and one that goes on over the cap, told apart
-pub is-run : (b : Bool) (o l n x y z : ℕ) → Run x y z ≡ cond b (Run o l n) Over → (b ≡ true) × (x ≡ o) × (y ≡ l) × (z ≡ n)
+is-run : (b : Bool) (o l n x y z : ℕ) → Run x y z ≡ cond b (Run o l n) Over → (b ≡ true) × (x ≡ o) × (y ≡ l) × (z ≡ n)
 is-run true o l n x y z e = (refl, cc e, cc e, cc e)
 is-run false o l n x y z e = absurd (let w : _≡_ {A = ℕ} 0 1 = cc e in omega arith)
-
-pub is-over : (b : Bool) (o l n : ℕ) → Over ≡ cond b (Run o l n) Over → b ≡ false
-is-over false o l n e = refl
-is-over true o l n e = absurd (let w : _≡_ {A = ℕ} 0 1 = cc e in omega arith)
 
 not-end : (x y z : ℕ) → Run x y z ≡ End → ⊥
 not-end x y z e = let w : _≡_ {A = ℕ} 0 1 = cc e in omega arith
@@ -168,9 +163,6 @@ module _ (v : ℕ) (s : List ℕ) (at bins : ℕ) (L : List ℕ) (more : bins < 
 
   pub here-opened : opens v (drop (runNext v s at) s) ≡ true
   here-opened = run-opens v s at here-inside here-low
-
-  pub here-step : (cap : ℕ) → stepAt v cap s at ≡ cond (leb (runLen v s at) cap) (Run (getD s at 0) (runLen v s at) (runNext v s at)) Over
-  here-step cap = step-there v s at opened some-left cap
 
 -- ---- what a scan tells
 pub told : (b : Bool) → Exact ≡ cond b Exact Off → b ≡ true

@@ -7,8 +7,9 @@ use mathlib.Core.List.{List, [], _∷_}
 use native.Mathlib.Nat.{pow-zero}
 use native.Mathlib.Omega.{arith}
 use lib.ListN.{length, drop, getD, drop-of-length-le}
+use lib.Seq.{take-all}
 use lib.Dec.{leb, ltb, eqb}
-use borrow.Author.Tests.{le-leb, lt-leb, lt-ltb, le-ltb, ne-eqb}
+use borrow.Author.Tests.{le-leb, lt-leb, lt-ltb, le-ltb, eq-eqb, ne-eqb}
 use Rattle.runs.specs.Run.{base, levels, gives, scanned}
 use Rattle.runs.specs.declared.Scan.{Scan}
 use Rattle.runs.specs.declared.Scan.the-variants.{Exact, Off}
@@ -105,28 +106,50 @@ module _ (v n : ℕ) (low : v ≤ 253) where
       ∙ ap (λ (b : Bool). cond b Exact Off) (sym (gives-level v n o s h)))
       (λ h. atRun-above v n 0 1 o s h ∙ ap (λ (b : Bool). cond b Exact Off) (sym (gives-above v n o s h)))
 
--- ---- the pass along the octets, i the place of the next one: X is the answer for the whole
-module _ (v n bins w : ℕ) (octets : List ℕ) (i : ℕ) (X : Scan) where
-  pub level-step : i < length octets → getD octets i 0 ≤ v → bins < n → atRun v n bins (drop i octets) ≡ X → inRun v n (bins + 1) 1 (drop (i + 1) octets) ≡ X
-  level-step hi ho hb e = sym (inRun-open v n bins w _ _ ho hb) ∙ sym (atRun-level v n bins w _ _ ho) ∙ (rw (drop-at octets i hi) at e)
+-- no octets give no bins
+pub none-given : (v n : ℕ) (s : List ℕ) → length s ≡ 0 → scanned v n s ≡ verdict n 0
+none-given v n s h = ap (λ (l : List ℕ). scanned v n l) (sym (take-all 0 s (omega arith))) ∙ ap (λ (b : Bool). cond b Exact Off) (gives-nil v n)
 
-  pub digits-end : length octets ≤ i → inRun v n bins w (drop i octets) ≡ X → atRun v n bins (drop i octets) ≡ X
-  digits-end hi e = rw (drop-of-length-le octets hi) (atRun-nil v n bins ∙ sym (inRun-nil v n bins w) ∙ (rw (drop-of-length-le octets hi) at e))
+pub all-read : (n bins : ℕ) → bins ≡ n → verdict n bins ≡ Exact
+all-read n bins e = simp (eq-eqb bins n e)
 
-  pub digits-level : i < length octets → getD octets i 0 ≤ v → inRun v n bins w (drop i octets) ≡ X → atRun v n bins (drop i octets) ≡ X
-  digits-level hi ho e = rw (drop-at octets i hi) (atRun-level v n bins w _ _ ho ∙ (rw (drop-at octets i hi) at e))
+pub too-few : (n bins : ℕ) → (bins ≡ n → ⊥) → verdict n bins ≡ Off
+too-few n bins e = simp (ne-eqb bins n e)
 
-  pub digit-step : i < length octets → v < getD octets i 0 → bins + (getD octets i 0 - v - 1) * w ≤ n → inRun v n bins w (drop i octets) ≡ X → inRun v n (bins + (getD octets i 0 - v - 1) * w) (cond (leb w n) (w * base v) w) (drop (i + 1) octets) ≡ X
-  digit-step hi ho hb e = sym (inRun-digit v n bins w _ _ ho hb) ∙ (rw (drop-at octets i hi) at e)
+-- ---- the pass along the octets, o the next one, at the place i: X is the answer for the whole
+ended : (v n bins w : ℕ) (octets : List ℕ) (i : ℕ) (X : Scan) → length octets ≤ i → inRun v n bins w (drop i octets) ≡ X → X ≡ verdict n bins
+ended v n bins w octets i X h e = sym (rw (drop-of-length-le octets h) at e) ∙ inRun-nil v n bins w
 
-  pub above-fails : i < length octets → v < getD octets i 0 → atRun v n bins (drop i octets) ≡ X → X ≡ Off
-  above-fails hi ho e = sym (rw (drop-at octets i hi) at e) ∙ atRun-above v n bins w _ _ ho
+-- where a run has to open
+module _ (v n bins : ℕ) (octets : List ℕ) (i o : ℕ) (X : Scan) (inside : i < length octets) (is : o ≡ getD octets i 0) where
+  next-octet : drop i octets ≡ o ∷ drop (i + 1) octets
+  next-octet = drop-at octets i inside ∙ ap (λ (x : ℕ). x ∷ drop (i + 1) octets) (sym is)
 
-  pub full-fails : i < length octets → getD octets i 0 ≤ v → n ≤ bins → atRun v n bins (drop i octets) ≡ X → X ≡ Off
-  full-fails hi ho hb e = sym (rw (drop-at octets i hi) at e) ∙ atRun-level v n bins w _ _ ho ∙ inRun-full v n bins w _ _ ho hb
+  pub above-fails : v < o → atRun v n bins (drop i octets) ≡ X → X ≡ Off
+  above-fails high e = sym (rw next-octet at e) ∙ atRun-above v n bins 1 o _ high
 
-  pub past-fails : i < length octets → v < getD octets i 0 → n < bins + (getD octets i 0 - v - 1) * w → inRun v n bins w (drop i octets) ≡ X → X ≡ Off
-  past-fails hi ho hb e = sym (rw (drop-at octets i hi) at e) ∙ inRun-past v n bins w _ _ ho hb
+  pub full-fails : o ≤ v → n ≤ bins → atRun v n bins (drop i octets) ≡ X → X ≡ Off
+  full-fails low full e = sym (rw next-octet at e) ∙ atRun-level v n bins 1 o _ low ∙ inRun-full v n bins 1 o _ low full
 
-  pub end-is : length octets ≤ i → atRun v n bins (drop i octets) ≡ X → X ≡ verdict n bins
-  end-is hi e = sym (rw (drop-of-length-le octets hi) at e) ∙ atRun-nil v n bins
+  pub level-step : o ≤ v → bins < n → atRun v n bins (drop i octets) ≡ X → inRun v n (bins + 1) 1 (drop (i + 1) octets) ≡ X
+  level-step low more e = sym (inRun-open v n bins 1 o _ low more) ∙ sym (atRun-level v n bins 1 o _ low) ∙ (rw next-octet at e)
+
+  pub level-last : o ≤ v → bins < n → length octets ≤ i + 1 → atRun v n bins (drop i octets) ≡ X → X ≡ verdict n (bins + 1)
+  level-last low more end e = ended v n (bins + 1) 1 octets (i + 1) X end (level-step low more e)
+
+-- in a run
+module _ (v n bins w : ℕ) (octets : List ℕ) (i o : ℕ) (X : Scan) (inside : i < length octets) (is : o ≡ getD octets i 0) where
+  here : drop i octets ≡ o ∷ drop (i + 1) octets
+  here = next-octet v n bins octets i o X inside is
+
+  pub digits-level : o ≤ v → inRun v n bins w (drop i octets) ≡ X → atRun v n bins (drop i octets) ≡ X
+  digits-level low e = rw here (atRun-level v n bins w o _ low ∙ (rw here at e))
+
+  pub past-fails : v < o → n < bins + (o - v - 1) * w → inRun v n bins w (drop i octets) ≡ X → X ≡ Off
+  past-fails high past e = sym (rw here at e) ∙ inRun-past v n bins w o _ high past
+
+  pub digit-step : v < o → bins + (o - v - 1) * w ≤ n → inRun v n bins w (drop i octets) ≡ X → inRun v n (bins + (o - v - 1) * w) (cond (leb w n) (w * base v) w) (drop (i + 1) octets) ≡ X
+  digit-step high within e = sym (inRun-digit v n bins w o _ high within) ∙ (rw here at e)
+
+  pub digit-last : v < o → bins + (o - v - 1) * w ≤ n → length octets ≤ i + 1 → inRun v n bins w (drop i octets) ≡ X → X ≡ verdict n (bins + (o - v - 1) * w)
+  digit-last high within end e = ended v n (bins + (o - v - 1) * w) (cond (leb w n) (w * base v) w) octets (i + 1) X end (digit-step high within e)

@@ -13,15 +13,15 @@ use Rattle.runs.specs.declared.Step.the-variants.{Run, Above, Over, End}
 abbrev pub base : ℕ → ℕ
 base v = 255 - v
 
--- "Octets above V that follow are digits (octet - V - 1), least first, base B": of the digits at the front, the sum of digit j times B^(k + j)
-unfoldable pub digitSum : ℕ → ℕ → List ℕ → ℕ
-digitSum v k [] = 0
-digitSum v k (o ∷ s) = cond (leb o v) 0 ((o - v - 1) * base v ^ k + digitSum v (k + 1) s)
-
 -- how many digits stand at the front
 unfoldable pub digitCount : ℕ → List ℕ → ℕ
 digitCount v [] = 0
 digitCount v (o ∷ s) = cond (leb o v) 0 (1 + digitCount v s)
+
+-- "Octets above V that follow are digits (octet - V - 1), least first, base B": of the digits at the front, the sum of digit j times B^(k + j)
+unfoldable pub digitSum : ℕ → ℕ → List ℕ → ℕ
+digitSum v k [] = 0
+digitSum v k (o ∷ s) = cond (leb o v) 0 ((o - v - 1) * base v ^ k + digitSum v (k + 1) s)
 
 -- "An octet up to V is a level and opens a run. Run length = 1 + the sum of digit k times B^k, k from 0". A digit opens no run
 unfoldable pub levels : ℕ → List ℕ → List ℕ

@@ -15,35 +15,43 @@ pub enum Scan {
     Off,
 }
 
-// One pass over the octets, runs outside and digits inside; an octet above V where a run has to open, or bins past n, leave it at once.
+// One pass over the octets, runs outside and digits inside: an octet that opens no run, or bins past n, leave it at once.
 // The weight grows no more once it is over n: a digit other than zero then passes n, and a tail of zero digits cannot overflow it.
 pub fn scan_runs(octets: &[u8], v: u8, n: usize) -> Scan
     requires { ⌜ (v ≤ 253) × (n ≤ 2097152) ⌝ }
     ensures { λ r. ⌜ r ≡ scanned v n (now (octets .entry)) ⌝ }
 {
+    if octets.len() == 0 {
+        if n == 0 {
+            return Scan::Exact;
+        }
+        return Scan::Off;
+    }
     let base = 255 - v as usize; // B
     let mut i: usize = 0;
     let mut bins: usize = 0;
-    'runs: while i < octets.len() {
-        if v < octets[i] {
-            break 'runs;
-        }
-        if n <= bins {
-            break 'runs;
-        }
+    let mut o = octets[0];
+    'runs: while o <= v {
         bins += 1;
         i += 1;
+        if n < bins {
+            break 'runs;
+        }
+        if octets.len() <= i {
+            break 'runs;
+        }
+        o = octets[i];
         let mut weight: usize = 1;
-        'digits: while i < octets.len() {
-            let o = octets[i];
-            if o <= v {
-                continue 'runs;
-            }
+        'digits: while v < o {
             bins += (o - v - 1) as usize * weight;
+            i += 1;
             if n < bins {
                 break 'runs;
             }
-            i += 1;
+            if octets.len() <= i {
+                break 'runs;
+            }
+            o = octets[i];
             if weight <= n {
                 weight *= base;
             }
@@ -203,7 +211,7 @@ pub fn run_read(octets: &[u8], v: u8, n: usize, out: &mut [u8]) -> RunRead
     if 253 < v {
         return RunRead::Refused(ReadRefusal::VOver253);
     }
-    if 2097152 < n {
+    if 2097152 < n { // 10 comes before 11
         return RunRead::Refused(ReadRefusal::TooManyBins);
     }
     if out.len() < n {
@@ -240,9 +248,8 @@ pub fn run_check(octets: &[u8], v: u8, n: usize) -> RunCheck
     if 2097152 < n {
         return RunCheck::Refused(CheckRefusal::TooManyBins);
     }
-    let found = scan_runs(octets, v, n);
-    let Scan::Exact = found else {
-        return RunCheck::Refused(CheckRefusal::WrongBins);
-    };
-    RunCheck::Gives
+    match scan_runs(octets, v, n) {
+        Scan::Exact => RunCheck::Gives,
+        Scan::Off => RunCheck::Refused(CheckRefusal::WrongBins),
+    }
 }

@@ -11,7 +11,7 @@ use native.Mathlib.Omega.{arith}
 use lib.ListN.{length, getD, drop, replicate, length-append, length-drop, length-replicate, getD-replicate, List·getD-append, replicate-append-replicate, drop-of-length-le}
 use lib.Seq.{sets, length-sets, drop-drop, drop-at, take-at, getD-drop, take-all}
 use lib.Dec.{leb, ltb}
-use borrow.Author.Tests.{leb-true, leb-false, ltb-true}
+use borrow.Author.Tests.{ltb-true}
 use Rattle.runs.specs.Run.{levels, opens}
 use Rattle.stretches.specs.Feed.{pending, Refilled}
 use Rattle.stretches.specs.Stretch.{Entry, Scale, perEntry, kindAt, starts, entryAt, listFrom, past, words, wordsOf, toList}
@@ -165,16 +165,34 @@ module _ (sc : Scale) (v nb nr q : ℕ) (xs : List ℕ) (list : List Entry) (out
     pub first-lt : first < nb
     pub same : (x : ℕ) → ray * nb + first ≤ x → x < ray * nb + end → K x ≡ held
 
-  module _ {out : List ℕ} {count ray first end held : ℕ} {rest : List Entry} (c : Closing out count ray first end held rest) (t : Bool) (tells : t ≡ toList q (ray * nb + first) (ray * nb + end)) where
+  -- what becomes of it: its words are written where it is one to list, and else it is passed over
+  pub record Flushed (wanted : Bool) (ws out : List ℕ) (count : ℕ) (out′ : List ℕ) (count′ : ℕ) : Type 0 where
+    pub fits : count′ ≤ cap
+    pub counts : count′ ≡ count + cond wanted 1 0
+    pub stores : out′ ≡ sets out (perEntry * count) (cond wanted ws [])
+
+  pub wrote : {wanted : Bool} {ws out out′ : List ℕ} {count count′ : ℕ} → wanted ≡ true → count < cap → out′ ≡ sets out (perEntry * count) ws → count′ ≡ count + 1 → Flushed wanted ws out count out′ count′
+  wrote e l o n = record { fits = omega arith; counts = rw e n; stores = rw e o }
+
+  pub passed : {wanted : Bool} {ws out out′ : List ℕ} {count count′ : ℕ} → wanted ≡ false → count ≤ cap → out′ ≡ out → count′ ≡ count → Flushed wanted ws out count out′ count′
+  passed e l o n = record { fits = omega arith; counts = rw e (omega arith); stores = rw e o }
+
+  module _ {out : List ℕ} {count ray first end held : ℕ} {rest : List Entry} (c : Closing out count ray first end held rest) where
+    abbrev wanted : Bool
+    wanted = toList q (ray * nb + first) (ray * nb + end)
+
+    abbrev entry : List ℕ
+    entry = ray ∷ first ∷ (end - first) ∷ held ∷ []
+
     abbrev hand : List Entry
     hand = inHand E q (ray * nb + first) (ray * nb + end)
 
     -- a stretch to list has a bin
-    has-bin : toList q (ray * nb + first) (ray * nb + end) ≡ true → ray * nb + first < ray * nb + end
+    has-bin : wanted ≡ true → ray * nb + first < ray * nb + end
     unfolding toList
     has-bin h = ltb-true (ray * nb + first) (ray * nb + end) (both (leb q (ray * nb + first)) (ltb (ray * nb + first) (ray * nb + end)) h .1)
 
-    entry-words : toList q (ray * nb + first) (ray * nb + end) ≡ true → words (E (ray * nb + first) (ray * nb + end - (ray * nb + first))) ≡ ray ∷ first ∷ (end - first) ∷ held ∷ []
+    entry-words : wanted ≡ true → words (E (ray * nb + first) (ray * nb + end - (ray * nb + first))) ≡ entry
     entry-words h =
         let r = place-ray nb ray first (c .first-lt) in
         let b = place-bin nb ray first (c .first-lt) in
@@ -182,56 +200,35 @@ module _ (sc : Scale) (v nb nr q : ℕ) (xs : List ℕ) (list : List Entry) (out
         let k = c .same (ray * nb + first) (omega arith) (has-bin h) in
         λ i. r i ∷ b i ∷ n i ∷ k i ∷ []
 
-    written-words : cond t (ray ∷ first ∷ (end - first) ∷ held ∷ []) [] ≡ wordsOf hand
-    written-words = ap (λ (b : Bool). cond b (ray ∷ first ∷ (end - first) ∷ held ∷ []) []) tells ∙ hand-words E q (ray * nb + first) (ray * nb + end) (ray ∷ first ∷ (end - first) ∷ held ∷ []) entry-words
+    -- there is room for its words
+    pub put-room : count < cap → perEntry * count + perEntry ≤ length out
+    put-room h = omega (arith, ap length (c .out-is) ∙ length-sets out₀ 0 (wordsOf (c .done)))
 
-    -- there is c .room for it
-    pub put-room : t && leb cap count ≡ false → perEntry * (count + cond t 1 0) ≤ length out
-    put-room h = go t h
-      where
-        size : length out ≡ length out₀
-        size = ap length (c .out-is) ∙ length-sets out₀ 0 (wordsOf (c .done))
+    module _ {out′ : List ℕ} {count′ : ℕ} (f : Flushed wanted entry out count out′ count′) where
+      put-whole : list ≡ (c .done ++ hand) ++ rest
+      put-whole = c .whole ∙ sym (append-assoc (c .done) hand rest)
 
-        go : (b : Bool) → b && leb cap count ≡ false → perEntry * (count + cond b 1 0) ≤ length out
-        go true e = omega (arith, leb-false cap count e, size)
-        go false e = omega (arith, c .room, size)
+      put-counted : count′ ≡ length (c .done ++ hand)
+      put-counted = omega (arith, f .counts, length-append (c .done) hand, hand-length E q (ray * nb + first) (ray * nb + end), c .counted)
 
-    -- it has been written
-    module _ (fits : t && leb cap count ≡ false) (out′ : List ℕ) (count′ : ℕ) (ce : count′ ≡ count + cond t 1 0)
-        (oe : out′ ≡ sets out (perEntry * count) (cond t (ray ∷ first ∷ (end - first) ∷ held ∷ []) [])) where
-      put-whole : list ≡ ((c .done) ++ hand) ++ rest
-      put-whole = (c .whole) ∙ sym (append-assoc (c .done) hand rest)
-
-      put-counted : count′ ≡ length ((c .done) ++ hand)
-      put-counted =
-          let h : cond t 1 0 ≡ length hand = ap {B = ℕ} (λ (b : Bool). cond b 1 0) tells ∙ sym (hand-length E q (ray * nb + first) (ray * nb + end)) in
-          omega (arith, length-append (c .done) hand, c .counted)
-
-      put-fits : count′ ≤ cap
-      put-fits = go t ce fits
-        where
-          go : (b : Bool) → count′ ≡ count + cond b 1 0 → b && leb cap count ≡ false → count′ ≤ cap
-          go true e h = omega (arith, leb-false cap count h)
-          go false e h = omega (arith, c .room)
-
-      put-out : out′ ≡ sets out₀ 0 (wordsOf ((c .done) ++ hand))
+      put-out : out′ ≡ sets out₀ 0 (wordsOf (c .done ++ hand))
       put-out =
           let e : 0 + length (wordsOf (c .done)) ≡ perEntry * count = omega (arith, length-words (c .done), c .counted) in
-          oe ∙ ap (sets out (perEntry * count)) written-words ∙ ap (λ (l : List ℕ). sets l (perEntry * count) (wordsOf hand)) (c .out-is)
+          f .stores ∙ ap (sets out (perEntry * count)) (hand-words E q (ray * nb + first) (ray * nb + end) entry entry-words)
+          ∙ ap (λ (l : List ℕ). sets l (perEntry * count) (wordsOf hand)) (c .out-is)
           ∙ ap (λ (x : ℕ). sets (sets out₀ 0 (wordsOf (c .done))) x (wordsOf hand)) (sym e)
           ∙ sets-append (wordsOf (c .done)) out₀ (wordsOf hand) 0
           ∙ ap (sets out₀ 0) (sym (words-append (c .done) hand))
 
-    -- there is no c .room for it: the next call begins with it
-    pub stuck : t && leb cap count ≡ true → Answers out₀ nr list [] (record { count = count; ray = ray; bin = first }) out
+    -- there is no room for it: the next call begins with it
+    pub stuck : wanted ≡ true → cap ≤ count → Answers out₀ nr list [] (record { count = count; ray = ray; bin = first }) out
     unfolding inHand
-    stuck h =
-        let b = both t (leb cap count) h in
-        let full : cap ≡ count = omega (arith, leb-true cap count (b .1)) in
-        let in-hand : hand ≡ E (ray * nb + first) (ray * nb + end - (ray * nb + first)) ∷ [] =
-        ap (λ (u : Bool). cond u (E (ray * nb + first) (ray * nb + end - (ray * nb + first)) ∷ []) []) (sym tells ∙ b .0) in
-        let a = answer-more out₀ nr list (c .done) (E (ray * nb + first) (ray * nb + end - (ray * nb + first))) rest ((c .whole) ∙ ap (λ (l : List Entry). (c .done) ++ (l ++ rest)) in-hand) (omega (arith, c .counted)) in
-        ((λ i. record { count = (c .counted) i; ray = sym (place-ray nb ray first (c .first-lt)) i; bin = sym (place-bin nb ray first (c .first-lt)) i }) ∙ a .0, (c .out-is) ∙ a .1)
+    stuck h l =
+        let full : cap ≡ count = omega (arith, c .room) in
+        let one : hand ≡ E (ray * nb + first) (ray * nb + end - (ray * nb + first)) ∷ [] =
+        ap (λ (u : Bool). cond u (E (ray * nb + first) (ray * nb + end - (ray * nb + first)) ∷ []) []) h in
+        let a = answer-more out₀ nr list (c .done) (E (ray * nb + first) (ray * nb + end - (ray * nb + first))) rest (c .whole ∙ ap (λ (l : List Entry). c .done ++ (l ++ rest)) one) (omega (arith, c .counted)) in
+        ((λ i. record { count = (c .counted) i; ray = sym (place-ray nb ray first (c .first-lt)) i; bin = sym (place-bin nb ray first (c .first-lt)) i }) ∙ a .0, c .out-is ∙ a .1)
 
   -- ---- a turn, with some of a run in hand
   module _ (full : length (levels v xs) ≡ nr * nb) where
@@ -280,10 +277,9 @@ module _ (sc : Scale) (v nb nr q : ℕ) (xs : List ℕ) (list : List Entry) (out
       }
 
       -- the stretch before it has been written
-      pub going-changed : (n : sc .kind (f .level) ≡ held → ⊥) (t : Bool) → t ≡ toList q (ray * nb + first) (ray * nb + bin) → t && leb cap count ≡ false
-          → (out′ : List ℕ) (count′ : ℕ) → count′ ≡ count + cond t 1 0 → out′ ≡ sets out (perEntry * count) (cond t (ray ∷ first ∷ (bin - first) ∷ held ∷ []) [])
-          → (k : ℕ) → Going out′ f ray bin bin k count′
-      going-changed n t tells fits out′ count′ ce oe k =
+      pub going-changed : (n : sc .kind (f .level) ≡ held → ⊥) {out′ : List ℕ} {count′ : ℕ}
+          → Flushed (toList q (ray * nb + first) (ray * nb + bin)) (ray ∷ first ∷ (bin - first) ∷ held ∷ []) out count out′ count′ → (k : ℕ) → Going out′ f ray bin bin k count′
+      going-changed n w k =
           record {
             bin-lt = g .bin-lt;
             first-le = omega arith;
@@ -293,10 +289,10 @@ module _ (sc : Scale) (v nb nr q : ℕ) (xs : List ℕ) (list : List Entry) (out
             same = λ x a b. absurd (omega arith);
             new = λ _. starts-other n;
             done = changing n .done ++ inHand E q (ray * nb + first) p;
-            whole = put-whole (changing n) t tells fits out′ count′ ce oe;
-            counted = put-counted (changing n) t tells fits out′ count′ ce oe;
-            room = put-fits (changing n) t tells fits out′ count′ ce oe;
-            out-is = put-out (changing n) t tells fits out′ count′ ce oe;
+            whole = put-whole (changing n) w;
+            counted = put-counted (changing n) w;
+            room = w .fits;
+            out-is = put-out (changing n) w;
           }
 
       -- ---- n bins of the run, all in this ray and of the kind in hand
@@ -382,10 +378,9 @@ module _ (sc : Scale) (v nb nr q : ℕ) (xs : List ℕ) (list : List Entry) (out
           same = end-same;
         }
 
-        pub going-ended : (t : Bool) → t ≡ toList q (ray * nb + first) (ray * nb + nb) → t && leb cap count ≡ false
-            → (out′ : List ℕ) (count′ : ℕ) → count′ ≡ count + cond t 1 0 → out′ ≡ sets out (perEntry * count) (cond t (ray ∷ first ∷ (nb - first) ∷ held ∷ []) [])
+        pub going-ended : {out′ : List ℕ} {count′ : ℕ} → Flushed (toList q (ray * nb + first) (ray * nb + nb)) (ray ∷ first ∷ (nb - first) ∷ held ∷ []) out count out′ count′
             → Going out′ (record { at = f .at; left = f .left - n; level = f .level }) (ray + 1) 0 0 held count′
-        going-ended t tells fits out′ count′ ce oe =
+        going-ended w =
             let e = ray-end nb ray in
             record {
               bin-lt = omega (arith, g .bin-lt);
@@ -397,11 +392,11 @@ module _ (sc : Scale) (v nb nr q : ℕ) (xs : List ℕ) (list : List Entry) (out
               new = λ _. subst (λ (x : ℕ). S x ≡ true) (sym e) starts-ray;
               done = ending .done ++ inHand E q (ray * nb + first) (ray * nb + nb);
               whole =
-                  put-whole ending t tells fits out′ count′ ce oe
+                  put-whole ending w
                   ∙ ap (λ (x : ℕ). (ending .done ++ inHand E q (ray * nb + first) (ray * nb + nb)) ++ owed S E nb pl q x x (nr * nb - x)) (sym e);
-              counted = put-counted ending t tells fits out′ count′ ce oe;
-              room = put-fits ending t tells fits out′ count′ ce oe;
-              out-is = put-out ending t tells fits out′ count′ ce oe;
+              counted = put-counted ending w;
+              room = w .fits;
+              out-is = put-out ending w;
             }
 
         -- a turn takes some bins, and no more than there are

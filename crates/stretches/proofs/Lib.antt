@@ -1,7 +1,10 @@
 pub mod Laws
+pub mod Points
 pub mod Meaning
 pub mod Rising
 pub mod Portions
 pub mod Refilling
 pub mod Going
 pub mod Scales
+pub mod Answers
+pub mod Examples

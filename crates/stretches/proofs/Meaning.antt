@@ -11,7 +11,8 @@ use lib.ListN.{getD}
 use lib.Dec.{leb}
 use borrow.Author.Tests.{le-leb, leb-true}
 use Rattle.runs.specs.Run.{levels}
-use Rattle.stretches.specs.Call.{listed}
+use Rattle.stretches.specs.Call.{listed, rightPoint}
+use Rattle.stretches.proofs.Points.{point-bin}
 use Rattle.stretches.proofs.Laws.{fresh-ray, fresh-other, fresh-false, fresh-true, mod-in-ray, more-quiet, more-stop}
 use Rattle.stretches.specs.Stretch.{Entry, Scale, kindAt, starts, more, entryAt, listFrom, stretchesOf, past}
 use Rattle.stretches.specs.Meaning.{IsStretch, In, Before, Ordered, IsList, AtOrPast, Wanted}
@@ -317,3 +318,15 @@ listed-is sc v xs nb nr ray bin h =
       all = λ e s. in-past nb (ray * nb + bin) l e (w .all e (s .is)) (past-place nb ray bin e h (s .here-on));
       ordered = past-ordered nb (ray * nb + bin) l (w .ordered);
     }
+
+-- THE THEOREMS, for a point that may be asked for: the call's list is the list of the wanted stretches, and no other list is
+module _ (sc : Scale) (v : ℕ) (xs : List ℕ) (nb nr ray bin : ℕ) (some : 0 < nb) (right : rightPoint nb nr ray bin ≡ true) where
+  -- bin b of ray r is level r x Nb + b
+  abbrev pub levelAt : ℕ → ℕ → ℕ
+  levelAt r b = getD (levels v xs) (r * nb + b) 0
+
+  pub list-right : IsList (Wanted sc levelAt nb nr ray bin) (listed sc v xs nb nr (ray * nb + bin))
+  list-right = listed-is sc v xs nb nr ray bin (point-bin nb nr ray bin right some)
+
+  pub list-only : (l : List Entry) → IsList (Wanted sc levelAt nb nr ray bin) l → l ≡ listed sc v xs nb nr (ray * nb + bin)
+  list-only l i = one-list (Wanted sc levelAt nb nr ray bin) l (listed sc v xs nb nr (ray * nb + bin)) i list-right

@@ -1,21 +1,17 @@
 -- Two scales that agree on every level of the data make the same list; a table of a product's kinds is such a scale, since no level is over V.
 use Prim.Native.Nat.{ℕ, zero, suc, _+_, _*_, _/_, _%_, _≤_}
-use mathlib.Core.Path.{_≡_, refl, ap, sym}
-use mathlib.Core.Bool.{Bool, true, false, true≢false, _&&_, _||_}
+use mathlib.Core.Path.{_≡_, ap}
 use mathlib.Core.List.{List, [], _∷_, _++_}
-use native.Mathlib.Nat.{mul-le-mul}
 use native.Mathlib.Omega.{arith}
 use lib.ListN.{getD, replicate}
-use lib.Dec.{ltb, eqb}
 use lib.IntN.{ℤ}
-use borrow.Author.Tests.{ltb-true, eqb-true}
 use Rattle.runs.specs.Run.{levels, digitSum}
 use Rattle.runs.proofs.Bins.{either, levels-nil, levels-open, levels-digit}
 use Rattle.values.specs.Published.{levelCount}
 use Rattle.values.specs.Reading.{KindsBy}
 use Rattle.values.specs.declared.Product.{Product}
 use Rattle.stretches.specs.Stretch.{Scale, kindAt, starts, listFrom, stretchesOf, past}
-use Rattle.stretches.specs.Call.{scaleOf, scaleBy, listed, rightPoint}
+use Rattle.stretches.specs.Call.{scaleOf, scaleBy, listed}
 
 -- ---- no level is over V
 append-le : (v : ℕ) (a b : List ℕ) → ((k : ℕ) → getD a k 0 ≤ v) → ((k : ℕ) → getD b k 0 ≤ v) → (k : ℕ) → getD (a ++ b) k 0 ≤ v
@@ -46,20 +42,3 @@ same-listed sc sc′ v xs nb nr q h = ap (past nb q) (same-stretches sc sc′ (l
 pub table-listed : (p : Product) (t : ℤ) (ks : List ℕ) (v : ℕ) (xs : List ℕ) (nb nr q : ℕ) → KindsBy p t ks → v ≤ levelCount p
     → listed (scaleBy ks) v xs nb nr q ≡ listed (scaleOf p t) v xs nb nr q
 table-listed p t ks v xs nb nr q h l = same-listed (scaleBy ks) (scaleOf p t) v xs nb nr q (λ x a. h x (omega arith))
-
--- ---- a right point is in a small grid
-pub point-small : (nb nr ray bin : ℕ) → rightPoint nb nr ray bin ≡ true → nb ≤ 2048 → nr ≤ 1024 → ray * nb + bin ≤ 2099200
-unfolding rightPoint
-point-small nb nr ray bin h lb lr = go (ltb ray nr) refl (ltb bin nb) refl (eqb ray nr) refl (eqb bin 0) refl h
-  where
-    grid : ray ≤ 1024 → bin ≤ 2048 → ray * nb + bin ≤ 2099200
-    grid r b = omega (arith, mul-le-mul {n₁ = ray} {m₁ = nb} {n₂ = 1024} {m₂ = 2048} r lb)
-
-    go : (a : Bool) → ltb ray nr ≡ a → (b : Bool) → ltb bin nb ≡ b → (c : Bool) → eqb ray nr ≡ c → (d : Bool) → eqb bin 0 ≡ d → (a && b) || (c && d) ≡ true → ray * nb + bin ≤ 2099200
-    go true ea true eb c ec d ed k = grid (omega (arith, ltb-true ray nr ea)) (omega (arith, ltb-true bin nb eb))
-    go true ea false eb true ec true ed k = grid (omega (arith, eqb-true ray nr ec)) (omega (arith, eqb-true bin 0 ed))
-    go true ea false eb true ec false ed k = absurd (true≢false (sym k))
-    go true ea false eb false ec d ed k = absurd (true≢false (sym k))
-    go false ea b eb true ec true ed k = grid (omega (arith, eqb-true ray nr ec)) (omega (arith, eqb-true bin 0 ed))
-    go false ea b eb true ec false ed k = absurd (true≢false (sym k))
-    go false ea b eb false ec d ed k = absurd (true≢false (sym k))

@@ -1,6 +1,5 @@
 -- What a longest stretch is, and what the list of them is, said without computing: lv r b is the level of bin b of ray r.
 -- proofs/Meaning.antt has the theorems: `listed` is the list, and there is only one.
-
 use Prim.Native.Nat.{ℕ, suc, _+_, _≤_, _<_}
 use mathlib.Core.Path.{_≡_}
 use mathlib.Core.Logic.{_⊎_}

@@ -3,9 +3,8 @@
 // portions of a fetching join to it. Stands on `runs` (a cut's levels) and `values` (the kind of a level); `polar` calls it for a file.
 //
 // The work goes straight over the runs: in time it is the data's octets and the entries, whatever the number of bins.
-use runs::Step;
 use values::Product;
-ghost use mathlib.Core.Bool.{true, cond};
+ghost use mathlib.Core.Bool.{true};
 ghost use mathlib.Core.Path.{_≡_};
 ghost use mathlib.Core.List.{[], _∷_};
 ghost use Prim.Native.Nat.{_+_, _*_, _≤_, _<_};
@@ -45,14 +44,12 @@ fn refilled(octets: &[u8], v: u8, f: Feed) -> Feed
         return f;
     }
     let at = f.at;
-    let step = runs::run_at(octets, v, at, 2097152);
-    match step {
-        Step::Run { level, len, next } => Feed {
-            at: next,
-            left: len,
-            level,
-        },
-        Step::Above | Step::Over | Step::End => f,
+    let level = octets[at];
+    let run = runs::known_run(octets, v, at);
+    Feed {
+        at: run.next,
+        left: run.len,
+        level,
     }
 }
 
@@ -67,30 +64,16 @@ fn to_list(nb: usize, from: usize, ray: usize, first: usize, end: usize) -> bool
     first < end
 }
 
-// Writes an entry after the first count, where there is one to write.
-fn put(
-    out: &mut [u32],
-    count: usize,
-    wanted: bool,
-    ray: usize,
-    first: usize,
-    len: usize,
-    kind: u32,
-) -> usize
-    requires { ⌜ (ray ≤ 1024) × (first ≤ 2048) × (len ≤ 2048) ⌝ }
-    requires { ⌜ perEntry * (count + cond wanted 1 0) ≤ length (now out) ⌝ }
-    ensures { λ r. ⌜ r ≡ count + cond wanted 1 0 ⌝ }
-    ensures { λ _. ⌜ now (out .exit) ≡ sets (now (out .entry)) (perEntry * count) (cond wanted (ray ∷ first ∷ len ∷ kind ∷ []) []) ⌝ }
+// Writes an entry after the first count.
+fn put(out: &mut [u32], count: usize, ray: usize, first: usize, len: usize, kind: u32)
+    requires { ⌜ (ray ≤ 1024) × (first ≤ 2048) × (len ≤ 2048) × (perEntry * count + perEntry ≤ length (now out)) ⌝ }
+    ensures { λ _. ⌜ now (out .exit) ≡ sets (now (out .entry)) (perEntry * count) (ray ∷ first ∷ len ∷ kind ∷ []) ⌝ }
 {
-    if !wanted {
-        return count;
-    }
     let i = WORDS * count;
     out[i] = ray as u32;
     out[i + 1] = first as u32;
     out[i + 2] = len as u32;
     out[i + 3] = kind;
-    count + 1
 }
 
 // The stretches by a table of kinds that start at place from or past it, as many as out has room for.
@@ -128,15 +111,17 @@ fn list_by(
         let level = f.level;
         let kind = kinds[level as usize];
         if kind != held {
-            let ended = to_list(nb, from, ray, first, bin);
-            if ended & (cap <= count) {
-                return Listing {
-                    count,
-                    ray,
-                    bin: first,
-                };
+            if to_list(nb, from, ray, first, bin) {
+                if cap <= count {
+                    return Listing {
+                        count,
+                        ray,
+                        bin: first,
+                    };
+                }
+                put(out, count, ray, first, bin - first, held);
+                count = count + 1;
             }
-            count = put(out, count, ended, ray, first, bin - first, held);
             first = bin;
             held = kind;
         }
@@ -146,15 +131,17 @@ fn list_by(
             feed = Feed { at, left: 0, level };
             continue;
         }
-        let whole = to_list(nb, from, ray, first, nb);
-        if whole & (cap <= count) {
-            return Listing {
-                count,
-                ray,
-                bin: first,
-            };
+        if to_list(nb, from, ray, first, nb) {
+            if cap <= count {
+                return Listing {
+                    count,
+                    ray,
+                    bin: first,
+                };
+            }
+            put(out, count, ray, first, nb - first, held);
+            count = count + 1;
         }
-        count = put(out, count, whole, ray, first, nb - first, held);
         ray = ray + 1;
         bin = 0;
         first = 0;

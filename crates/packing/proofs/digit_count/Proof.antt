@@ -1,4 +1,4 @@
--- `digit_count` meets its contract.
+-- `digit_count` meets its contract: the digits counted and those of what is left make all.
 use Prim.Native.Nat.{ℕ, _+_}
 use mathlib.Core.Path.{_≡_, ap}
 use native.Mathlib.Omega.{arith}

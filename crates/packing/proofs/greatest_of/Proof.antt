@@ -1,4 +1,4 @@
--- `greatest_of` meets its contract.
+-- `greatest_of` meets its contract: the greatest so far and that of the levels to come make the greatest of all.
 use Prim.Native.Nat.{max, _-_, _≤_}
 use mathlib.Core.Path.{_≡_}
 use native.Mathlib.Omega.{arith}

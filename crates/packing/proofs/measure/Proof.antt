@@ -1,10 +1,9 @@
--- `measure` meets its contract: what is counted, and what is left to write.
+-- `measure` meets its contract: what is counted, and the octets that the run in hand and the levels to come take, make all.
 use Prim.Native.Nat.{_+_, _-_, _≤_, _<_}
 use mathlib.Core.Path.{_≡_, sym, ap}
 use native.Mathlib.Omega.{arith}
-use lib.ListN.{length, getD, drop}
+use lib.ListN.{length, getD, drop, length-append}
 use borrow.Author.Needs.{needs}
-use lib.ListN.{length-append}
 use Rattle.packing.specs.Write.{code, onFrom, written}
 use Rattle.packing.proofs.Digits.{digits-short, code-length, on-same, on-other, on-end, written-start, written-empty}
 use Rattle.packing.proofs.measure.Statement.{statement}

@@ -1,17 +1,14 @@
--- `put_all` meets its contract: what is in front, and what is left to write.
+-- `put_all` meets its contract: what stands in front, and what is left to write.
 use Prim.Native.Nat.{ℕ, _+_, _-_, _≤_, _<_}
 use mathlib.Core.Path.{_≡_, refl, sym, ap, _∙_}
-use mathlib.Core.List.{List, _++_, []}
+use mathlib.Core.List.{List, _++_, [], append-nil}
 use native.Mathlib.Omega.{arith}
-use lib.ListN.{length, take, drop}
+use lib.ListN.{length, take, drop, length-drop}
 use borrow.Author.Needs.{needs}
-use Rattle.runs.specs.Lent.{front}
+use Rattle.runs.specs.Lent.{front, placed}
 use Rattle.packing.specs.Write.{code, onFrom, written}
-use Rattle.runs.specs.Lent.{placed}
 use Rattle.packing.proofs.Digits.{on-same, on-other, on-end, written-start, written-empty}
 use Rattle.packing.proofs.Placing.{next-drop, next-fits, run-put, length-fronted}
-use mathlib.Core.List.{append-nil}
-use lib.ListN.{length-drop}
 use lib.Seq.{take-all}
 use Rattle.packing.proofs.put_all.Statement.{statement}
 use Rattle.packing.proofs.put_all.Tie as tie

@@ -3,9 +3,8 @@ use Prim.Native.Nat.{ℕ, _+_, _-_, _/_, _%_, _≤_}
 use mathlib.Core.Path.{_≡_, sym, ap, _∙_}
 use mathlib.Core.List.{List, _∷_}
 use native.Mathlib.Omega.{arith}
-use lib.ListN.{length, take, drop}
+use lib.ListN.{length, take, drop, set, length-set, length-drop}
 use borrow.Author.Needs.{needs}
-use lib.ListN.{set, length-set, length-drop}
 use Rattle.packing.specs.Write.{code, digitsOf}
 use Rattle.runs.specs.Lent.{placed}
 use Rattle.packing.proofs.Digits.{octetsOf, code-is, octets-none, octets-more, code-length}

@@ -1,4 +1,4 @@
--- `runs::run_at` meets its contract: what is left of the octets, with the length and the weight so far, answers what stands at the place.
+-- `run_at` meets its contract: what is left of the octets, with the length and the weight so far, answers what stands at the place.
 use Prim.Native.Nat.{_-_, _*_, _≤_, _<_}
 use mathlib.Core.Path.{_≡_, _∙_}
 use native.Mathlib.Omega.{arith}

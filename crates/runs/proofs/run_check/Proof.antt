@@ -28,14 +28,14 @@ enum-told-2 c = search needs
 returns-3 : tie.Need-returns-3
 unfolding checkAnswer
 returns-3 c = let a = c .before .before .before .before .before .before .args in
-    let no = missed (gives (a .v) (a .n) (a .octets .now)) (sym (c .enum-told2 .given .1) ∙ c .before .before .scan-runs .ensures) in
-    record { answered = simp (le-ltb _ _ (c .before .before .before .if2 .left), le-ltb _ _ (c .before .before .before .before .if1 .left), no) }
+    let yes = told (gives (a .v) (a .n) (a .octets .now)) (sym (c .enum-told .given .1) ∙ c .before .before .scan-runs .ensures) in
+    record { answered = simp (le-ltb _ _ (c .before .before .before .if2 .left), le-ltb _ _ (c .before .before .before .before .if1 .left), yes) }
 
 returns-4 : tie.Need-returns-4
 unfolding checkAnswer
 returns-4 c = let a = c .before .before .before .before .before .before .args in
-    let yes = told (gives (a .v) (a .n) (a .octets .now)) (sym (c .enum-told .given .1) ∙ c .before .before .scan-runs .ensures) in
-    record { answered = simp (le-ltb _ _ (c .before .before .before .if2 .left), le-ltb _ _ (c .before .before .before .before .if1 .left), yes) }
+    let no = missed (gives (a .v) (a .n) (a .octets .now)) (sym (c .enum-told2 .given .1) ∙ c .before .before .scan-runs .ensures) in
+    record { answered = simp (le-ltb _ _ (c .before .before .before .if2 .left), le-ltb _ _ (c .before .before .before .before .if1 .left), no) }
 
 pub run-check-spec : {M : Type 1} → statement M
 run-check-spec =

@@ -1,41 +1,52 @@
--- `runs::scan_runs` meets its contract: what is left of the octets, with the bins and the weight so far, answers what all of them do.
+-- `scan_runs` meets its contract: what is left of the octets, with the bins and the weight so far, answers what all of them do.
 use Prim.Native.Nat.{_-_, _*_, _≤_, _<_}
-use mathlib.Core.Path.{_≡_, sym, ap, _∙_}
+use mathlib.Core.Path.{_≡_, refl, sym, _∙_}
 use mathlib.Core.Logic.{_⊎_, inl, inr, ⊎-elim}
-use mathlib.Core.Bool.{Bool, cond}
 use native.Mathlib.Omega.{arith}
 use native.Mathlib.Nat.{mul-le-mul}
 use lib.ListN.{length, getD, drop}
-use borrow.Author.Needs.{needs}
-use borrow.Author.Tests.{le-leb, lt-leb, eq-eqb, ne-eqb}
+use borrow.Author.Tests.{le-leb, lt-leb}
 use Rattle.runs.specs.Run.{scanned}
-use Rattle.runs.specs.declared.Scan.the-variants.{Exact, Off}
+use Rattle.runs.specs.declared.Scan.the-variants.{Off}
 use Rattle.runs.proofs.Bins.{product}
-use Rattle.runs.proofs.Scanning.{verdict, inRun, atRun, atRun-right, level-step, digits-end, digits-level, digit-step, above-fails, full-fails, past-fails, end-is}
+use Rattle.runs.proofs.Scanning.{verdict, inRun, atRun, none-given, all-read, too-few, atRun-right, level-step, level-last, digits-level, digit-step, digit-last, above-fails, full-fails, past-fails}
+use borrow.Author.Needs.{needs}
 use Rattle.runs.proofs.scan_runs.Statement.{statement}
 use Rattle.runs.proofs.scan_runs.Tie as tie
 
 abbrev Inv-digits : tie.InvT-digits
-Inv-digits octets v n base i₀ bins₀ weight₀ i bins weight = (i ≤ length octets) × (i₀ ≤ i) × (bins ≤ n) × (weight ≤ 2097152 * 255) × (inRun v n bins weight (drop i octets) ≡ scanned v n octets)
+Inv-digits octets v n base i₀ bins₀ o₀ weight₀ i bins o weight = (i < length octets) × (i₀ ≤ i) × (bins ≤ n) × (weight ≤ 2097152 * 255) × (o ≡ getD octets i 0) × (inRun v n bins weight (drop i octets) ≡ scanned v n octets)
 
 abbrev μ-digits : tie.MeasureT-digits
-μ-digits octets v n base i₀ bins₀ weight₀ i bins weight = length octets - i
+μ-digits octets v n base i₀ bins₀ o₀ weight₀ i bins o weight = length octets - i
 
 abbrev Inv-runs : tie.InvT-runs
-Inv-runs octets v n base i₀ bins₀ i bins = (i ≤ length octets) × (bins ≤ n) × (atRun v n bins (drop i octets) ≡ scanned v n octets)
+Inv-runs octets v n base i₀ bins₀ o₀ i bins o = (i < length octets) × (bins ≤ n) × (o ≡ getD octets i 0) × (atRun v n bins (drop i octets) ≡ scanned v n octets)
 
 abbrev μ-runs : tie.MeasureT-runs
-μ-runs octets v n base i₀ bins₀ i bins = length octets - i
+μ-runs octets v n base i₀ bins₀ o₀ i bins o = length octets - i
+
+-- the digit in hand is an octet
+octet : (c : tie.In-digits Inv-digits μ-digits Inv-runs μ-runs) → c .before .digits .o ≤ 255
+octet c = omega (arith, c .before .digits .inv .4, c .before .before .shared-slice-known2 .given (c .before .digits .i))
+
+returns : tie.Need-returns Inv-digits μ-digits Inv-runs μ-runs
+returns c = let a = c .before .before .args in
+    sym (none-given (a .v) (a .n) (a .octets .now) (c .before .if1 .taken) ∙ all-read (a .n) 0 (sym (c .if2 .taken)))
+
+returns-2 : tie.Need-returns-2 Inv-digits μ-digits Inv-runs μ-runs
+returns-2 c = let a = c .before .before .args in
+    sym (none-given (a .v) (a .n) (a .octets .now) (c .before .if1 .taken) ∙ too-few (a .n) 0 (λ e. c .if2 .left (sym e)))
 
 sub-base : tie.Need-sub-base Inv-digits μ-digits Inv-runs μ-runs
 sub-base c = search needs
 
-runs-holds : tie.Need-runs-holds Inv-digits μ-digits Inv-runs μ-runs
-runs-holds c =
-    (search needs, search needs, atRun-right (c .args .v) (c .args .n) (omega arith) (c .args .octets .now))
+shared-slice-read-o : tie.Need-shared-slice-read-o Inv-digits μ-digits Inv-runs μ-runs
+shared-slice-read-o c = search needs
 
-shared-slice-read-if1 : tie.Need-shared-slice-read-if1 Inv-digits μ-digits Inv-runs μ-runs
-shared-slice-read-if1 c = search needs
+runs-holds : tie.Need-runs-holds Inv-digits μ-digits Inv-runs μ-runs
+runs-holds c = let a = c .before .before .args in
+    (omega arith, omega arith, refl, atRun-right (a .v) (a .n) (omega arith) (a .octets .now))
 
 add-bins : tie.Need-add-bins Inv-digits μ-digits Inv-runs μ-runs
 add-bins c = search needs
@@ -43,32 +54,21 @@ add-bins c = search needs
 add-i : tie.Need-add-i Inv-digits μ-digits Inv-runs μ-runs
 add-i c = search needs
 
+shared-slice-read-o-2 : tie.Need-shared-slice-read-o-2 Inv-digits μ-digits Inv-runs μ-runs
+shared-slice-read-o-2 c = search needs
+
 digits-holds : tie.Need-digits-holds Inv-digits μ-digits Inv-runs μ-runs
-digits-holds c =
-    let a = c .before .before .before .before .before .args in
+digits-holds c = let a = c .before .before .before .before .before .before .before .args in
     let r = c .before .before .before .before .runs in
-    (omega arith, omega arith, omega arith, omega arith, level-step (a .v) (a .n) (r .bins) 1 (a .octets .now) (r .i) _ (omega arith) (omega arith) (omega arith) (r .inv .2))
+    (omega arith, omega arith, omega arith, omega arith, refl, level-step (a .v) (a .n) (r .bins) (a .octets .now) (r .i) (r .o) _ (r .inv .0) (r .inv .2) (omega arith) (omega arith) (r .inv .3))
 
 runs-less : tie.Need-runs-less Inv-digits μ-digits Inv-runs μ-runs
 runs-less c = search needs
 
 runs-again : tie.Need-runs-again Inv-digits μ-digits Inv-runs μ-runs
-runs-again c =
-    let a = c .before .before .before .before .before .before .before .args in
+runs-again c = let a = c .before .before .before .before .before .before .before .before .before .args in
     let d = c .before .digits in
-    (omega arith, omega arith, digits-end (a .v) (a .n) (d .bins) (d .weight) (a .octets .now) (d .i) _ (omega arith) (d .inv .4))
-
-shared-slice-read-o : tie.Need-shared-slice-read-o Inv-digits μ-digits Inv-runs μ-runs
-shared-slice-read-o c = search needs
-
-runs-less-2 : tie.Need-runs-less-2 Inv-digits μ-digits Inv-runs μ-runs
-runs-less-2 c = search needs
-
-runs-again-2 : tie.Need-runs-again-2 Inv-digits μ-digits Inv-runs μ-runs
-runs-again-2 c =
-    let a = c .before .before .before .before .before .before .before .before .before .args in
-    let d = c .before .before .before .digits in
-    (omega arith, omega arith, digits-level (a .v) (a .n) (d .bins) (d .weight) (a .octets .now) (d .i) _ (omega arith) (omega arith) (d .inv .4))
+    (omega arith, omega arith, d .inv .4, digits-level (a .v) (a .n) (d .bins) (d .weight) (a .octets .now) (d .i) (d .o) _ (d .inv .0) (d .inv .4) (omega arith) (d .inv .5))
 
 sub-bins : tie.Need-sub-bins Inv-digits μ-digits Inv-runs μ-runs
 sub-bins c = search needs
@@ -77,27 +77,26 @@ sub-bins-2 : tie.Need-sub-bins-2 Inv-digits μ-digits Inv-runs μ-runs
 sub-bins-2 c = search needs
 
 cast-bins : tie.Need-cast-bins Inv-digits μ-digits Inv-runs μ-runs
-cast-bins c =
-    omega (arith, c .before .shared-slice-known2 .given (c .before .before .before .digits .i))
+cast-bins c = omega (arith, octet c)
 
 mul-bins : tie.Need-mul-bins Inv-digits μ-digits Inv-runs μ-runs
-mul-bins c =
-    let a = c .before .before .before .before .before .before .before .before .before .args in
-    let d = c .before .before .before .digits in
-    record { fits = omega (arith, product (2097152 * 255) (getD (a .octets .now) (d .i) 0 - a .v - 1) (d .weight) (omega (arith, c .before .shared-slice-known2 .given (c .before .before .before .digits .i))) (omega arith)) }
+mul-bins c = let a = c .before .before .before .before .before .before .before .before .before .args in
+    let d = c .before .digits in
+    record { fits = omega (arith, product (2097152 * 255) (d .o - a .v - 1) (d .weight) (omega (arith, octet c)) (omega arith)) }
 
 add-bins-2 : tie.Need-add-bins-2 Inv-digits μ-digits Inv-runs μ-runs
-add-bins-2 c =
-    let a = c .before .before .before .before .before .before .before .before .before .args in
-    let d = c .before .before .before .digits in
-    record { fits = omega (arith, product (2097152 * 255) (getD (a .octets .now) (d .i) 0 - a .v - 1) (d .weight) (omega (arith, c .before .shared-slice-known2 .given (c .before .before .before .digits .i))) (omega arith)) }
+add-bins-2 c = let a = c .before .before .before .before .before .before .before .before .before .args in
+    let d = c .before .digits in
+    record { fits = omega (arith, product (2097152 * 255) (d .o - a .v - 1) (d .weight) (omega (arith, octet c)) (omega arith)) }
 
 add-i-2 : tie.Need-add-i-2 Inv-digits μ-digits Inv-runs μ-runs
 add-i-2 c = search needs
 
+shared-slice-read-o-3 : tie.Need-shared-slice-read-o-3 Inv-digits μ-digits Inv-runs μ-runs
+shared-slice-read-o-3 c = search needs
+
 mul-weight : tie.Need-mul-weight Inv-digits μ-digits Inv-runs μ-runs
-mul-weight c =
-    let a = c .before .before .before .before .before .before .before .before .before .before .before .args in
+mul-weight c = let a = c .before .before .before .before .before .before .before .before .before .before .before .before .before .args in
     let d = c .before .before .before .before .before .digits in
     record { fits = omega (arith, mul-le-mul {n₁ = d .weight} {m₁ = 255 - a .v} {n₂ = 2097152} {m₂ = 255} (omega arith) (omega arith)) }
 
@@ -105,55 +104,54 @@ digits-less : tie.Need-digits-less Inv-digits μ-digits Inv-runs μ-runs
 digits-less c = search needs
 
 digits-again : tie.Need-digits-again Inv-digits μ-digits Inv-runs μ-runs
-digits-again c =
-    let a = c .before .before .before .before .before .before .before .before .before .before .before .args in
+digits-again c = let a = c .before .before .before .before .before .before .before .before .before .before .before .before .before .args in
     let d = c .before .before .before .before .before .digits in
     let small : d .weight ≤ a .n = omega arith in
-    (omega arith, omega arith, omega arith, omega (arith, mul-le-mul {n₁ = d .weight} {m₁ = 255 - a .v} {n₂ = 2097152} {m₂ = 255} (omega arith) (omega arith)), (simp (le-leb _ _ small) at (digit-step (a .v) (a .n) (d .bins) (d .weight) (a .octets .now) (d .i) _ (omega arith) (omega arith) (omega arith) (d .inv .4))))
+    (omega arith, omega arith, omega arith, omega (arith, mul-le-mul {n₁ = d .weight} {m₁ = 255 - a .v} {n₂ = 2097152} {m₂ = 255} (omega arith) (omega arith)), refl, (simp (le-leb _ _ small) at (digit-step (a .v) (a .n) (d .bins) (d .weight) (a .octets .now) (d .i) (d .o) _ (d .inv .0) (d .inv .4) (omega arith) (omega arith) (d .inv .5))))
 
 digits-less-2 : tie.Need-digits-less-2 Inv-digits μ-digits Inv-runs μ-runs
 digits-less-2 c = search needs
 
 digits-again-2 : tie.Need-digits-again-2 Inv-digits μ-digits Inv-runs μ-runs
-digits-again-2 c =
-    let a = c .before .before .before .before .before .before .before .before .before .before .before .args in
+digits-again-2 c = let a = c .before .before .before .before .before .before .before .before .before .before .before .before .before .args in
     let d = c .before .before .before .before .before .digits in
     let large : a .n < d .weight = omega arith in
-    (omega arith, omega arith, omega arith, omega arith, (simp (lt-leb _ _ large) at (digit-step (a .v) (a .n) (d .bins) (d .weight) (a .octets .now) (d .i) _ (omega arith) (omega arith) (omega arith) (d .inv .4))))
+    (omega arith, omega arith, omega arith, omega arith, refl, (simp (lt-leb _ _ large) at (digit-step (a .v) (a .n) (d .bins) (d .weight) (a .octets .now) (d .i) (d .o) _ (d .inv .0) (d .inv .4) (omega arith) (omega arith) (d .inv .5))))
 
--- where the ways out meet: an octet is at fault, or all were read
+-- where the ways out meet: octets or bins fail, or all octets were read
 left : (c : tie.Left-runs Inv-digits μ-digits Inv-runs μ-runs) →
-    ((c .runs-test .i < length (c .before .before .args .octets .now)) × (scanned (c .before .before .args .v) (c .before .before .args .n) (c .before .before .args .octets .now) ≡ Off))
-    ⊎ ((length (c .before .before .args .octets .now) ≤ c .runs-test .i) × (scanned (c .before .before .args .v) (c .before .before .args .n) (c .before .before .args .octets .now) ≡ verdict (c .before .before .args .n) (c .runs-test .bins)))
+    ((scanned (c .before .before .before .before .args .v) (c .before .before .before .before .args .n) (c .before .before .before .before .args .octets .now) ≡ Off) × ((c .runs-test .i < length (c .before .before .before .before .args .octets .now)) ⊎ (c .before .before .before .before .args .n < c .runs-test .bins)))
+    ⊎ ((length (c .before .before .before .before .args .octets .now) ≤ c .runs-test .i) × (scanned (c .before .before .before .before .args .v) (c .before .before .before .before .args .n) (c .before .before .before .before .args .octets .now) ≡ verdict (c .before .before .before .before .args .n) (c .runs-test .bins)))
 left c =
-    let a = c .before .before .args in
+    let a = c .before .before .before .before .args in
+    let s = a .octets .now in
     let r = c .before .runs in
     ⊎-elim
-    (λ w. inr (omega arith, end-is (a .v) (a .n) (r .bins) 1 (a .octets .now) (r .i) _ (w .0 .left) (r .inv .2) ∙ (λ k. verdict (a .n) (sym (w .2) k))))
+    (λ w. inl (above-fails (a .v) (a .n) (r .bins) s (r .i) (r .o) _ (r .inv .0) (r .inv .2) (w .0 .left) (r .inv .3), inl (omega (arith, w .1))))
     (⊎-elim
-    (λ w. inl (omega arith, above-fails (a .v) (a .n) (r .bins) 1 (a .octets .now) (r .i) _ (w .0 .taken) (w .2 .taken) (r .inv .2)))
+    (λ w. inl (full-fails (a .v) (a .n) (r .bins) s (r .i) (r .o) _ (r .inv .0) (r .inv .2) (w .0 .taken) (omega (arith, w .1 .taken)) (r .inv .3), inr (omega (arith, w .1 .taken, w .3))))
     (⊎-elim
-    (λ w. inl (omega arith, full-fails (a .v) (a .n) (r .bins) 1 (a .octets .now) (r .i) _ (w .0 .taken) (w .2 .left) (w .3 .taken) (r .inv .2)))
-    (λ w. inl (omega arith, past-fails (a .v) (a .n) (w .4 .bins) (w .4 .weight) (a .octets .now) (w .4 .i) _ (w .5 .taken) (w .7 .left) (w .8 .taken) (w .4 .inv .4)))))
+    (λ w. inr (omega (arith, w .2 .taken, w .3), level-last (a .v) (a .n) (r .bins) s (r .i) (r .o) _ (r .inv .0) (r .inv .2) (w .0 .taken) (omega (arith, w .1 .left)) (w .2 .taken) (r .inv .3) ∙ (λ k. verdict (a .n) (sym (w .4) k))))
+    (⊎-elim
+    (λ w.
+    let d = w .4 in
+    inl (past-fails (a .v) (a .n) (d .bins) (d .weight) s (d .i) (d .o) _ (d .inv .0) (d .inv .4) (w .5 .taken) (w .6 .taken) (d .inv .5), inr (omega (arith, w .6 .taken, w .8))))
+    (λ w.
+    let d = w .4 in
+    inr (omega (arith, w .7 .taken, w .8), digit-last (a .v) (a .n) (d .bins) (d .weight) s (d .i) (d .o) _ (d .inv .0) (d .inv .4) (w .5 .taken) (w .6 .left) (w .7 .taken) (d .inv .5) ∙ (λ k. verdict (a .n) (sym (w .9) k)))))))
     (c .runs-test .came)
 
-returns : tie.Need-returns Inv-digits μ-digits Inv-runs μ-runs
-returns c =
-    ⊎-elim (λ w. sym (w .1)) (λ w. absurd (omega arith)) (left (c .before))
-
-returns-2 : tie.Need-returns-2 Inv-digits μ-digits Inv-runs μ-runs
-returns-2 c =
-    ⊎-elim
-    (λ w. absurd (omega arith))
-    (λ w. sym (w .1 ∙ ap (λ (x : Bool). cond x Exact Off) (eq-eqb _ _ (c .if7 .taken))))
-    (left (c .before .before))
-
 returns-3 : tie.Need-returns-3 Inv-digits μ-digits Inv-runs μ-runs
-returns-3 c =
-    ⊎-elim
-    (λ w. absurd (omega arith))
-    (λ w. sym (w .1 ∙ ap (λ (x : Bool). cond x Exact Off) (ne-eqb _ _ (c .if7 .left))))
+returns-3 c = ⊎-elim (λ w. sym (w .0)) (λ w. absurd (omega arith)) (left (c .before))
+
+returns-4 : tie.Need-returns-4 Inv-digits μ-digits Inv-runs μ-runs
+returns-4 c = ⊎-elim
+    (λ w. absurd (⊎-elim (λ h. omega arith) (λ h. omega arith) (w .1)))
+    (λ w. sym (w .1 ∙ all-read _ _ (c .if9 .taken)))
     (left (c .before .before))
+
+returns-5 : tie.Need-returns-5 Inv-digits μ-digits Inv-runs μ-runs
+returns-5 c = ⊎-elim (λ w. sym (w .0)) (λ w. sym (w .1 ∙ too-few _ _ (c .if9 .left))) (left (c .before .before))
 
 pub scan-runs-spec : {M : Type 1} → statement M
 scan-runs-spec =
@@ -163,28 +161,29 @@ scan-runs-spec =
     μ-digits
     Inv-runs
     μ-runs
+    returns
+    returns-2
     sub-base
+    shared-slice-read-o
     runs-holds
-    shared-slice-read-if1
     add-bins
     add-i
+    shared-slice-read-o-2
     digits-holds
     runs-less
     runs-again
-    shared-slice-read-o
-    runs-less-2
-    runs-again-2
     sub-bins
     sub-bins-2
     cast-bins
     mul-bins
     add-bins-2
     add-i-2
+    shared-slice-read-o-3
     mul-weight
     digits-less
     digits-again
     digits-less-2
     digits-again-2
-    returns
-    returns-2
-    returns-3)
+    returns-3
+    returns-4
+    returns-5)

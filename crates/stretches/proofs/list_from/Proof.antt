@@ -6,7 +6,8 @@ use mir.Syntax.{w32}
 use mir.ValLaws.{toZ-ofZ}
 use denote.Ref.{now}
 use Rattle.values.specs.Reading.{readingOf, kindOf, KindsBy}
-use Rattle.stretches.proofs.Scales.{table-listed, point-small}
+use Rattle.stretches.proofs.Points.{point-small}
+use Rattle.stretches.proofs.Scales.{table-listed}
 use borrow.Author.Needs.{needs}
 use Rattle.stretches.proofs.list_from.Statement.{statement}
 use Rattle.stretches.proofs.list_from.Tie as tie
@@ -15,10 +16,10 @@ kinds-by-requires : tie.Need-kinds-by-requires
 kinds-by-requires c κs = search needs
 
 mul-list-by : tie.Need-mul-list-by
-mul-list-by c = let s = c .before .before .before .before in omega (arith, point-small (s .args .nb) (s .args .nr) (s .args .ray) (s .args .bin) (s .pre .1 .1) (s .pre .0 .nb-le) (s .pre .0 .nr-le))
+mul-list-by c = let s = c .before .before .before .before in omega (arith, point-small (s .args .nb) (s .args .nr) (s .args .ray) (s .args .bin) (s .pre .1 .1) (s .pre .0 .nb-pos) (s .pre .0 .nb-le) (s .pre .0 .nr-le))
 
 add-list-by : tie.Need-add-list-by
-add-list-by c = let s = c .before .before .before .before in omega (arith, point-small (s .args .nb) (s .args .nr) (s .args .ray) (s .args .bin) (s .pre .1 .1) (s .pre .0 .nb-le) (s .pre .0 .nr-le))
+add-list-by c = let s = c .before .before .before .before in omega (arith, point-small (s .args .nb) (s .args .nr) (s .args .ray) (s .args .bin) (s .pre .1 .1) (s .pre .0 .nb-pos) (s .pre .0 .nb-le) (s .pre .0 .nr-le))
 
 list-by-requires : tie.Need-list-by-requires
 list-by-requires c κs = search needs

@@ -1,0 +1,90 @@
+-- Numbers of a good cut: what run reading asks, and that the bins of a ray lie among all bins.
+use Prim.Native.Nat.{ℕ, suc, _+_, _*_, _-_, _≤_, _<_}
+use mathlib.Core.Path.{_≡_, ap}
+use mathlib.Core.List.{List}
+use mathlib.Core.Bool.{true}
+use native.Mathlib.Omega.{arith}
+use native.Mathlib.Nat.{mul-le-mul, mul-le-mul-right}
+use lib.ListN.{length, getD, take, drop}
+use lib.Seq.{drop-cons}
+use lib.IntN.{ℤ}
+use Rattle.runs.specs.Run.{opens, levels}
+use Rattle.runs.specs.Lent.{front, between}
+use Rattle.runs.proofs.Here.{gives-true, levels-le}
+use Rattle.values.specs.Published.{levelCount}
+use Rattle.values.specs.declared.Product.{Product}
+use Rattle.values.proofs.Listed.{count-le}
+use Rattle.layout.specs.Parts.{dataAt, productIn, binsIn, raysIn, greatestIn, levelsIn, levelIn}
+use Rattle.layout.specs.Good.{GoodCut}
+use Rattle.layout.specs.declared.Cut.{Cut}
+use Rattle.stretches.specs.Call.{Part, scaleOf, listed, rightPoint}
+use Rattle.cuts.specs.Bins.{binsFrom, stretchesIn}
+
+module _ (s : List ℕ) (c : Cut) (g : GoodCut s c) where
+  pub greatest-small : greatestIn s c ≤ 252
+  greatest-small = let few = g .greatest-few in omega (arith, count-le (productIn s c))
+
+  pub data-opens : opens (greatestIn s c) (dataAt s (c .section7)) ≡ true
+  data-opens = gives-true (greatestIn s c) (raysIn s c * binsIn s c) (dataAt s (c .section7)) (g .exact) .0
+
+  pub all-levels : length (levels (greatestIn s c) (dataAt s (c .section7))) ≡ raysIn s c * binsIn s c
+  all-levels = gives-true (greatestIn s c) (raysIn s c * binsIn s c) (dataAt s (c .section7)) (g .exact) .1
+
+  pub all-bins : length (levelsIn s c) ≡ raysIn s c * binsIn s c
+  unfolding levelsIn
+  all-bins = all-levels
+
+  pub few-bins : raysIn s c * binsIn s c ≤ 2097152
+  few-bins = mul-le-mul (g .rays-few) (g .bins-few)
+
+-- a ray of nr rays of nb bins
+pub ray-inside : (ray nr nb : ℕ) → ray < nr → ray * nb + nb ≤ nr * nb
+ray-inside ray nr nb h = let m : suc ray * nb ≤ nr * nb = mul-le-mul-right nb h in omega (arith, m)
+
+pub bin-inside : (ray nr bin nb : ℕ) → ray < nr → bin < nb → ray * nb + bin + 1 ≤ nr * nb
+bin-inside ray nr bin nb h k = let m = ray-inside ray nr nb h in omega arith
+
+-- ── what the callees ask and give, of the numbers v, nb, nr, the data xs and the product p that were read ──
+
+module _ (s : List ℕ) (c : Cut) (g : GoodCut s c) (v : ℕ) (xs : List ℕ) (ev : v ≡ greatestIn s c) (ex : xs ≡ dataAt s (c .section7)) where
+  pub fill-asks : (from count room : ℕ) → from + count ≤ raysIn s c * binsIn s c → count ≤ room
+      → ((v ≤ 253) × (opens v xs ≡ true) × (length (levels v xs) ≤ 2097152)) × ((from ≤ from + count) × (from + count ≤ length (levels v xs)) × (from + count - from ≤ room))
+  fill-asks from count room h k =
+      let small = greatest-small s c g in
+      let all = all-levels s c g in
+      let few = few-bins s c g in
+      rw (ev, ex) ((omega arith, data-opens s c g, omega arith), (omega arith, omega arith, omega arith))
+
+  pub fill-gives : (from count : ℕ) (d : List ℕ) → front (between from (from + count) (levels v xs)) d ≡ front (binsFrom s c from count) d
+  unfolding binsFrom levelsIn
+  fill-gives from count d =
+      let n : from + count - from ≡ count = omega arith in
+      rw (ev, ex) (ap (λ (k : ℕ). front (take k (drop from (levels (greatestIn s c) (dataAt s (c .section7))))) d) n)
+
+  module _ (nb nr : ℕ) (p : Product) (eb : nb ≡ binsIn s c) (er : nr ≡ raysIn s c) (ep : p ≡ productIn s c) where
+    pub list-asks : (ray bin : ℕ) → rightPoint (binsIn s c) (raysIn s c) ray bin ≡ true
+        → Part v nb nr xs × ((v ≤ levelCount p) × (rightPoint nb nr ray bin ≡ true))
+    list-asks ray bin h =
+        let small = greatest-small s c g in
+        rw (ev, ex, eb, er, ep)
+        (record { v-le = omega arith; nb-pos = g .bins-some; nb-le = g .bins-few; nr-le = g .rays-few; given = g .exact }, (g .greatest-few, h))
+
+    pub list-gives : (t z : ℤ) (ray bin : ℕ) → z ≡ t → listed (scaleOf p z) v xs nb nr (ray * nb + bin) ≡ stretchesIn s c t ray bin
+    unfolding stretchesIn
+    list-gives t z ray bin ez = rw (ev, ex, eb, er, ep, ez)
+
+-- the one bin that is read
+pub first-of : (l d : List ℕ) (p : ℕ) → p < length l → getD (front (take 1 (drop p l)) d) 0 0 ≡ getD l p 0
+first-of l d p h = rw (drop-cons l p 0 h)
+
+pub level-read : (s : List ℕ) (c : Cut) → GoodCut s c → (ray bin nb : ℕ) (d : List ℕ) → nb ≡ binsIn s c → ray < raysIn s c → bin < binsIn s c
+    → (getD (front (binsFrom s c (ray * nb + bin) 1) d) 0 0 ≡ levelIn s c ray bin) × (levelIn s c ray bin ≤ levelCount (productIn s c))
+unfolding binsFrom levelIn levelsIn
+level-read s c g ray bin nb d e h k =
+    let l = levels (greatestIn s c) (dataAt s (c .section7)) in
+    let all = all-levels s c g in
+    let there = bin-inside ray (raysIn s c) bin (binsIn s c) h k in
+    let in-l : ray * binsIn s c + bin < length l = omega arith in
+    let low = levels-le (greatestIn s c) (dataAt s (c .section7)) (ray * binsIn s c + bin) in-l in
+    let few = g .greatest-few in
+    (rw e (first-of l d (ray * binsIn s c + bin) in-l), omega arith)

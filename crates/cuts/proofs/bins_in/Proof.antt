@@ -1,0 +1,19 @@
+use Rattle.layout.specs.Parts.{binsIn}
+use Rattle.rules.specs.Fields.{binsAt}
+use mathlib.Core.Path.{_∙_}
+use borrow.Author.Needs.{needs}
+use Rattle.cuts.proofs.bins_in.Statement.{statement}
+use Rattle.cuts.proofs.bins_in.Tie as tie
+
+field32-requires : tie.Need-field32-requires
+field32-requires c κs = search needs
+
+place-requires : tie.Need-place-requires
+place-requires c κs = search needs
+
+returns : tie.Need-returns
+unfolding binsIn binsAt
+returns c = c .place .ensures ∙ c .before .field32 .ensures
+
+pub bins-in-spec : {M : Type 1} → statement M
+bins-in-spec = tie.close (tie.spec field32-requires place-requires returns)

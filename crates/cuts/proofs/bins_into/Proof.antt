@@ -1,0 +1,31 @@
+use Rattle.cuts.proofs.Places.{fill-asks, fill-gives, few-bins}
+use Rattle.cuts.proofs.Places.{few-bins}
+use native.Mathlib.Omega.{arith}
+use Prim.Native.Nat.{_-_}
+use mathlib.Core.Path.{_∙_}
+use borrow.Author.Needs.{needs}
+use Rattle.cuts.proofs.bins_into.Statement.{statement}
+use Rattle.cuts.proofs.bins_into.Tie as tie
+
+greatest-in-requires : tie.Need-greatest-in-requires
+greatest-in-requires c κs = search needs
+
+data-in-requires : tie.Need-data-in-requires
+data-in-requires c κs = search needs
+
+add-fill : tie.Need-add-fill
+add-fill c = omega (arith, few-bins _ _ (c .before .before .before .before .pre .0))
+
+fill-requires : tie.Need-fill-requires
+fill-requires c κs = fill-asks _ _ (c .before .before .before .before .before .pre .0) _ _ (c .before .before .greatest-in .ensures) (c .before .data-in .ensures) _ _ _ (c .before .before .before .before .before .pre .1 .0) (c .before .before .before .before .before .pre .1 .1)
+
+same-length : tie.Need-same-length
+same-length c = search needs
+
+returns : tie.Need-returns
+returns c = c .before .before .fill .ensures ∙ fill-gives _ _ (c .before .before .before .before .before .before .before .before .pre .0) _ _ (c .before .before .before .before .before .greatest-in .ensures) (c .before .before .before .before .data-in .ensures) _ _ _
+
+pub bins-into-spec : {M : Type 1} → statement M
+bins-into-spec =
+    tie.close
+    (tie.spec greatest-in-requires data-in-requires add-fill fill-requires same-length returns)

@@ -1,0 +1,39 @@
+use Rattle.layout.specs.Parts.{dataAt}
+use Rattle.rules.specs.Fields.{lengthAt}
+use lib.ListN.{take, drop}
+use denote.Ref.{now}
+use native.Mathlib.Omega.{arith}
+use Prim.Native.Nat.{ℕ, _+_, _-_}
+use mathlib.Core.Path.{_≡_, ap}
+use borrow.Author.Needs.{needs}
+use Rattle.cuts.proofs.data_in.Statement.{statement}
+use Rattle.cuts.proofs.data_in.Tie as tie
+
+add-from : tie.Need-add-from
+add-from c = search needs
+
+end-at-requires : tie.Need-end-at-requires
+end-at-requires c κs = search needs
+
+sub-result : tie.Need-sub-result
+sub-result c = search needs
+
+part-result-start : tie.Need-part-result-start
+part-result-start c = search needs
+
+part-result-end : tie.Need-part-result-end
+part-result-end c = search needs
+
+returns : tie.Need-returns
+unfolding dataAt
+returns c = let a = c .before .before .before .args in
+    let s = now (a .file) in
+    let len = lengthAt s (a .c .section7) in
+    let to = c .before .end-at .ensures in
+    let span : c .before .end-at .result - (a .c .section7 + 5) ≡ len - 5 = omega arith in
+    ap (λ (k : ℕ). take k (drop (a .c .section7 + 5) s)) span
+
+pub data-in-spec : {M : Type 1} → statement M
+data-in-spec =
+    tie.close
+    (tie.spec add-from end-at-requires sub-result part-result-start part-result-end returns)

@@ -1,0 +1,19 @@
+use Rattle.layout.specs.Parts.{raysIn}
+use Rattle.rules.specs.Fields.{raysAt}
+use mathlib.Core.Path.{_∙_}
+use borrow.Author.Needs.{needs}
+use Rattle.cuts.proofs.rays_in.Statement.{statement}
+use Rattle.cuts.proofs.rays_in.Tie as tie
+
+field32-requires : tie.Need-field32-requires
+field32-requires c κs = search needs
+
+place-requires : tie.Need-place-requires
+place-requires c κs = search needs
+
+returns : tie.Need-returns
+unfolding raysIn raysAt
+returns c = c .place .ensures ∙ c .before .field32 .ensures
+
+pub rays-in-spec : {M : Type 1} → statement M
+rays-in-spec = tie.close (tie.spec field32-requires place-requires returns)

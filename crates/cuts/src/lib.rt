@@ -1,0 +1,97 @@
+// One cut of an accepted file, read by the places of its sections: Nb, Nr, V, its data; a ray's levels, a bin's level, its stretches. Every function that
+// reads data asks that the cut is good (specs/Good.antt of `layout`), which the file's checks have shown, and tests nothing again. Below it stand
+// `layout`, `runs`, `values` and `stretches`; above it `polar`, whose calls make the checks, and `lister`, which goes over all cuts of a file.
+use layout::Cut;
+use stretches::Listing;
+ghost use mathlib.Core.Path.{_≡_};
+ghost use mathlib.Core.Bool.{true};
+ghost use Prim.Native.Nat.{_+_, _*_, _≤_, _<_};
+ghost use lib.ListN.{length};
+ghost use Rattle.runs.specs.Lent.{front};
+ghost use Rattle.values.specs.Published.{levelCount};
+ghost use Rattle.layout.specs.Parts.{dataAt, productIn, binsIn, raysIn, greatestIn, levelIn};
+ghost use Rattle.layout.specs.Good.{GoodCut};
+ghost use Rattle.stretches.specs.Call.{answerOf, outOf, rightPoint};
+ghost use Rattle.cuts.specs.Bins.{binsFrom, rayIn, stretchesIn};
+
+// Nb, Nr and V of a cut.
+pub fn bins_in(file: &[u8], c: Cut) -> usize
+    ensures { λ r. ⌜ r ≡ binsIn (now (file .entry)) c ⌝ }
+{
+    place(rules::field32(file, c.section3, 15))
+}
+
+pub fn rays_in(file: &[u8], c: Cut) -> usize
+    ensures { λ r. ⌜ r ≡ raysIn (now (file .entry)) c ⌝ }
+{
+    place(rules::field32(file, c.section3, 19))
+}
+
+pub fn greatest_in(file: &[u8], c: Cut) -> u8
+    requires { ⌜ GoodCut (now file) c ⌝ }
+    ensures { λ r. ⌜ r ≡ greatestIn (now (file .entry)) c ⌝ }
+{
+    rules::field16(file, c.section5, 13) as u8
+}
+
+fn place(x: u32) -> usize
+    ensures { λ r. ⌜ r ≡ x ⌝ }
+{
+    x as usize
+}
+
+// The data of a cut.
+pub fn data_in(file: &[u8], c: Cut) -> &[u8]
+    requires { ⌜ GoodCut (now file) c ⌝ }
+    ensures { λ r. ⌜ now r ≡ dataAt (now (file .entry)) (c .section7) ⌝ }
+{
+    let at = c.section7;
+    let from = at + 5;
+    let to = layout::end_at(file, at);
+    &file[from..to]
+}
+
+// The levels of `count` bins of a cut from place `from` on, at the front of out.
+fn bins_into(file: &[u8], c: Cut, from: usize, count: usize, out: &mut [u8])
+    requires { ⌜ GoodCut (now file) c ⌝ }
+    requires { ⌜ (from + count ≤ raysIn (now file) c * binsIn (now file) c) × (count ≤ length (now out)) ⌝ }
+    ensures { λ _. ⌜ now (out .exit) ≡ front (binsFrom (now (file .entry)) c from count) (now (out .entry)) ⌝ }
+{
+    let v = greatest_in(file, c);
+    runs::fill(data_in(file, c), v, from, from + count, out)
+}
+
+// The levels of a ray, at the front of out.
+pub fn ray_into(file: &[u8], c: Cut, ray: usize, out: &mut [u8])
+    requires { ⌜ GoodCut (now file) c ⌝ }
+    requires { ⌜ (ray < raysIn (now file) c) × (binsIn (now file) c ≤ length (now out)) ⌝ }
+    ensures { λ _. ⌜ now (out .exit) ≡ front (rayIn (now (file .entry)) c ray) (now (out .entry)) ⌝ }
+{
+    let nb = bins_in(file, c);
+    bins_into(file, c, ray * nb, nb, out)
+}
+
+// The level of one bin.
+pub fn level_in(file: &[u8], c: Cut, ray: usize, bin: usize) -> u8
+    requires { ⌜ GoodCut (now file) c ⌝ }
+    requires { ⌜ (ray < raysIn (now file) c) × (bin < binsIn (now file) c) ⌝ }
+    ensures { λ r. ⌜ (r ≡ levelIn (now (file .entry)) c ray bin) × (r ≤ levelCount (productIn (now (file .entry)) c)) ⌝ }
+{
+    let mut one = [0u8; 1];
+    bins_into(file, c, ray * bins_in(file, c) + bin, 1, &mut one);
+    one[0]
+}
+
+// The stretches that start at the point (ray, bin) or past it, as many as the words have room for.
+pub fn list_into(file: &[u8], c: Cut, t: i32, ray: usize, bin: usize, words: &mut [u32]) -> Listing
+    requires { ⌜ GoodCut (now file) c ⌝ }
+    requires { ⌜ rightPoint (binsIn (now file) c) (raysIn (now file) c) ray bin ≡ true ⌝ }
+    ensures { λ r. ⌜ r ≡ answerOf (raysIn (now (file .entry)) c) (length (now (words .entry))) (stretchesIn (now (file .entry)) c t ray bin) ⌝ }
+    ensures { λ _. ⌜ now (words .exit) ≡ outOf (now (words .entry)) (stretchesIn (now (file .entry)) c t ray bin) ⌝ }
+{
+    let nr = rays_in(file, c);
+    let nb = bins_in(file, c);
+    let product = layout::product_in(file, c);
+    let v = greatest_in(file, c);
+    stretches::list_from(data_in(file, c), v, product, t, nb, nr, ray, bin, words)
+}

@@ -1,0 +1,2 @@
+pub mod OnCut
+pub mod Answering

@@ -1,0 +1,36 @@
+use Rattle.polar.proofs.OnCut.{opened-found, opened-bad}
+use Rattle.polar.specs.Opening.{openAnswer}
+use Rattle.polar.specs.declared.Opened.the-variants.{File}
+use Rattle.layout.specs.Verdict.{verdict}
+use denote.Ref.{now}
+use mathlib.Core.Path.{sym, _∙_, ap}
+use borrow.Author.Needs.{needs}
+use Rattle.polar.proofs.open.Statement.{statement}
+use Rattle.polar.proofs.open.Tie as tie
+
+walk-requires : tie.Need-walk-requires
+walk-requires c κs = search needs
+
+enum-known-f : tie.Need-enum-known-f
+enum-known-f c = search needs
+
+summary-of-requires : tie.Need-summary-of-requires
+summary-of-requires c κs = search needs
+
+enum-known-refusal : tie.Need-enum-known-refusal
+enum-known-refusal c = search needs
+
+returns : tie.Need-returns
+unfolding openAnswer
+returns c = let s = now (c .before .before .before .before .before .before .before .args .file) in
+    ap File (c .summary-of .ensures) ∙ sym (opened-found s (verdict s) _ (sym (c .before .before .before .before .before .walk .ensures) ∙ c .before .before .before .f .given .1))
+
+returns-2 : tie.Need-returns-2
+unfolding openAnswer
+returns-2 c = let s = now (c .before .before .before .before .before .args .file) in
+    sym (opened-bad s (verdict s) _ (sym (c .before .before .before .walk .ensures) ∙ c .before .refusal .given .1))
+
+pub open-spec : {M : Type 1} → statement M
+open-spec =
+    tie.close
+    (tie.spec walk-requires enum-known-f summary-of-requires enum-known-refusal returns returns-2)

@@ -1,0 +1,66 @@
+-- Document 01, "Calls": what open and cut answer.
+use Prim.Native.Nat.{ℕ}
+use mathlib.Core.List.{List}
+use mathlib.Core.Bool.{cond}
+use lib.Dec.{eqb}
+use lib.ListN.{length, getD}
+use Rattle.octets.specs.Octets.{signed}
+use Rattle.rules.specs.Rules.{field}
+use Rattle.rules.specs.Fields.{siteAt, binsAt, raysAt}
+use Rattle.layout.specs.Parts.{productIn}
+use Rattle.layout.specs.Verdict.{Verdict, accepted, refused, verdict, noCut}
+use Rattle.layout.specs.declared.Cut.{Cut}
+use Rattle.polar.specs.Cuts.{onCut}
+use Rattle.polar.specs.declared.Summary.{Summary}
+use Rattle.polar.specs.declared.Opened.{Opened}
+use Rattle.polar.specs.declared.Opened.the-variants as O
+use Rattle.polar.specs.declared.Elevation.{Elevation}
+use Rattle.polar.specs.declared.Elevation.the-variants.{Missing, Hundredths}
+use Rattle.polar.specs.declared.CutInfo.{CutInfo}
+use Rattle.polar.specs.declared.CutAnswer.{CutAnswer}
+use Rattle.polar.specs.declared.CutAnswer.the-variants as C
+use Rattle.polar.specs.declared.AskRefusal.the-variants.{File, Argument}
+
+-- "product, time, site, number of cuts": the time stands in section 1, at place 16; product and site are those of the first cut's section 4
+abbrev pub summaryOf : List ℕ → ℕ → Cut → Summary
+summaryOf s n c =
+    record {
+      product = productIn s c;
+      year = field s 16 13 2;
+      month = field s 16 15 1;
+      day = field s 16 16 1;
+      hour = field s 16 17 1;
+      minute = field s 16 18 1;
+      second = field s 16 19 1;
+      site = siteAt s (c .section4);
+      cuts = n;
+    }
+
+abbrev pub opened : List ℕ → Verdict → Opened
+opened s (accepted cs) = O.File (summaryOf s (length cs) (getD cs 0 noCut))
+opened s (refused r) = O.Refused r
+
+unfoldable pub openAnswer : List ℕ → Opened
+openAnswer s = opened s (verdict s)
+
+-- octets 42-43 of section 4: "Elevation constant 0xFFFF means missing, not -32767"
+unfoldable pub elevationOf : ℕ → Elevation
+elevationOf n = cond (eqb n 0xFFFF) Missing (Hundredths (signed 2 n))
+
+-- "Nb, Nr, latitude, longitude, Dx, Dstart, start azimuth, octet 38, elevation constant or missing"
+unfoldable pub infoOf : List ℕ → Cut → CutInfo
+infoOf s c =
+    record {
+      nb = binsAt s (c .section3);
+      nr = raysAt s (c .section3);
+      latitude = signed 4 (field s (c .section3) 23 4);
+      longitude = field s (c .section3) 27 4;
+      dx = field s (c .section3) 31 4;
+      dstart = field s (c .section3) 35 4;
+      «start_azimuth» = field s (c .section3) 40 2;
+      octet38 = field s (c .section4) 38 1;
+      elevation = elevationOf (field s (c .section4) 42 2);
+    }
+
+unfoldable pub cutAnswer : List ℕ → ℕ → CutAnswer
+cutAnswer s i = onCut (λ r. C.Refused (File r)) (C.Refused Argument) (λ c. C.Cut (infoOf s c)) i (verdict s)

@@ -1,0 +1,61 @@
+-- Document 01, "Calls": what ray levels, ray values and bin value answer and leave in lent memory. They speak of demand 2's bins: "bin b of ray r
+-- is level r x Nb + b" of what the cut's data decodes to.
+use Prim.Native.Nat.{ℕ}
+use mathlib.Core.List.{List}
+use mathlib.Core.Bool.{cond, _&&_}
+use lib.Dec.{ltb}
+use lib.IntN.{ℤ}
+use Rattle.fraction.specs.Quotient.{hundredths}
+use Rattle.runs.specs.Lent.{front}
+use Rattle.values.specs.Reading.{readingOf}
+use Rattle.values.specs.Ray.{marksOf, valuesOf}
+use Rattle.values.specs.declared.Reading.{Reading}
+use Rattle.values.specs.declared.Reading.the-variants as R
+use Rattle.layout.specs.Parts.{productIn, binsIn, raysIn, levelIn}
+use Rattle.layout.specs.Verdict.{verdict}
+use Rattle.layout.specs.declared.Cut.{Cut}
+use Rattle.cuts.specs.Bins.{rayIn}
+use Rattle.polar.specs.Cuts.{onCut, cutIn}
+use Rattle.polar.specs.declared.RayAnswer.{RayAnswer}
+use Rattle.polar.specs.declared.RayAnswer.the-variants.{Written, Refused}
+use Rattle.polar.specs.declared.FillRefusal.the-variants.{File, Argument, Room}
+use Rattle.polar.specs.declared.BinAnswer.{BinAnswer}
+use Rattle.polar.specs.declared.BinAnswer.the-variants as B
+use Rattle.polar.specs.declared.AskRefusal.the-variants as A
+
+-- 10 for the ray, then 11 for room under Nb
+unfoldable pub rayOn : List ℕ → ℕ → ℕ → Cut → RayAnswer
+rayOn s ray room c = cond (ltb ray (raysIn s c)) (cond (ltb room (binsIn s c)) (Refused Room) Written) (Refused Argument)
+
+-- both ray calls; of two rooms the smaller counts: "under Nb (either buffer)"
+unfoldable pub rayAnswer : List ℕ → ℕ → ℕ → ℕ → RayAnswer
+rayAnswer s i ray room = onCut (λ r. Refused (File r)) (Refused Argument) (rayOn s ray room) i (verdict s)
+
+-- lent memory afterwards: what is written, or what it was
+abbrev pub ifWritten : {A : Type 0} → RayAnswer → A → A → A
+ifWritten Written new old = new
+ifWritten (Refused r) new old = old
+
+-- "Nb octets at the front of a lent buffer"
+unfoldable pub levelsAfter : RayAnswer → List ℕ → ℕ → ℕ → List ℕ → List ℕ
+levelsAfter a s i ray out = ifWritten a (front (rayIn s (cutIn s i) ray) out) out
+
+-- "Nb marks .. and, in a second buffer of signed 32-bit entries, the value at each measured place; a missing place keeps what it held"
+unfoldable pub marksAfter : RayAnswer → List ℕ → ℕ → ℕ → List ℕ → List ℕ
+marksAfter a s i ray out = ifWritten a (marksOf (productIn s (cutIn s i)) (rayIn s (cutIn s i) ray) out) out
+
+unfoldable pub valuesAfter : RayAnswer → List ℕ → ℕ → ℕ → List ℤ → List ℤ
+valuesAfter a s i ray out = ifWritten a (valuesOf (productIn s (cutIn s i)) (rayIn s (cutIn s i) ray) out) out
+
+-- "either missing or a 64-bit float, the whole value taken over exactly and divided once by 100"
+unfoldable pub binOf : Reading → BinAnswer
+binOf R.Missing = B.Missing
+binOf (R.Number z) = B.Value (hundredths z)
+
+-- 10 for the ray or the bin
+unfoldable pub binOn : List ℕ → ℕ → ℕ → Cut → BinAnswer
+binOn s ray bin c =
+    cond (ltb ray (raysIn s c) && ltb bin (binsIn s c)) (binOf (readingOf (productIn s c) (levelIn s c ray bin))) (B.Refused A.Argument)
+
+unfoldable pub binAnswer : List ℕ → ℕ → ℕ → ℕ → BinAnswer
+binAnswer s i ray bin = onCut (λ r. B.Refused (A.File r)) (B.Refused A.Argument) (binOn s ray bin) i (verdict s)

@@ -1,0 +1,380 @@
+// THE CALLS of a file: document 01, "Calls". Each is lent the whole file, makes all the file's checks itself, then answers or refuses by 10, then 11;
+// none asks anything of its caller. What each answers, and what it leaves in lent memory, is one definition of specs/. Below it stand `layout` (the
+// file's checks) and `cuts` (one cut of an accepted file); above it `lines` and `lister` (the list as text) and `polar_c` (the calls for C and Rust).
+use layout::Cut;
+use layout::FileRefusal;
+use layout::Walked;
+use stretches::Listing;
+use values::Product;
+use values::Reading;
+ghost use mathlib.Core.Path.{_≡_};
+ghost use Prim.Native.Nat.{min};
+ghost use lib.ListN.{length};
+ghost use Rattle.runs.specs.Lent.{front};
+ghost use Rattle.values.specs.Ray.{marksOf, valuesOf};
+ghost use Rattle.layout.specs.Parts.{productIn};
+ghost use Rattle.layout.specs.Good.{GoodCut};
+ghost use Rattle.stretches.specs.Call.{outOf};
+ghost use Rattle.cuts.specs.Bins.{rayIn, stretchesIn};
+ghost use Rattle.polar.specs.Opening.{summaryOf, openAnswer, elevationOf, infoOf, cutAnswer};
+ghost use Rattle.polar.specs.Rays.{rayOn, rayAnswer, ifWritten, levelsAfter, marksAfter, valuesAfter, binOf, binOn, binAnswer};
+ghost use Rattle.polar.specs.Stretching.{stretchesOn, stretchAnswer, ifListed, wordsAfter, house};
+
+// Refusals of a call that fills nothing: the file's own, or 10.
+pub enum AskRefusal {
+    File(FileRefusal),
+    Argument,
+}
+
+// Refusals of a call that fills lent memory: the file's own, 10, or 11.
+pub enum FillRefusal {
+    File(FileRefusal),
+    Argument,
+    Room,
+}
+
+// What is common to all cuts of a file.
+pub struct Summary {
+    pub product: Product,
+    pub year: u16,
+    pub month: u8,
+    pub day: u8,
+    pub hour: u8,
+    pub minute: u8,
+    pub second: u8,
+    pub site: u16,
+    pub cuts: usize,
+}
+
+pub enum Opened {
+    File(Summary),
+    Refused(FileRefusal),
+}
+
+pub enum Elevation {
+    Missing,
+    Hundredths(i32),
+}
+
+// A cut as the file describes it, each number as read.
+pub struct CutInfo {
+    pub nb: u32,
+    pub nr: u32,
+    pub latitude: i32,
+    pub longitude: u32,
+    pub dx: u32,
+    pub dstart: u32,
+    pub start_azimuth: u16,
+    pub octet38: u8,
+    pub elevation: Elevation,
+}
+
+pub enum CutAnswer {
+    Cut(CutInfo),
+    Refused(AskRefusal),
+}
+
+// What both ray calls answer.
+pub enum RayAnswer {
+    Written,
+    Refused(FillRefusal),
+}
+
+pub enum BinAnswer {
+    Missing,
+    Value(f64),
+    Refused(AskRefusal),
+}
+
+pub enum StretchAnswer {
+    Listed(Listing),
+    Refused(FillRefusal),
+}
+
+// The house threshold, in hundredths.
+const HOUSE: i32 = 4000;
+
+// ---- open and cut
+
+fn summary_of(file: &[u8], n: usize, c: Cut) -> Summary
+    ensures { λ r. ⌜ r ≡ summaryOf (now (file .entry)) n c ⌝ }
+{
+    let section4 = c.section4;
+    let product = layout::product_in(file, c);
+    let year = rules::field16(file, 16, 13);
+    let month = rules::field8(file, 16, 15);
+    let day = rules::field8(file, 16, 16);
+    let hour = rules::field8(file, 16, 17);
+    let minute = rules::field8(file, 16, 18);
+    let second = rules::field8(file, 16, 19);
+    let site = rules::field16(file, section4, 29);
+    Summary {
+        product,
+        year,
+        month,
+        day,
+        hour,
+        minute,
+        second,
+        site,
+        cuts: n,
+    }
+}
+
+// Open: product, time, site and number of cuts.
+pub fn open(file: &[u8]) -> Opened
+    ensures { λ r. ⌜ r ≡ openAnswer (now (file .entry)) ⌝ }
+{
+    match layout::walk(file, 0) {
+        Walked::Whole(f) => {
+            let c = f.cut;
+            Opened::File(summary_of(file, f.cuts, c))
+        }
+        Walked::Rejected(refusal) => Opened::Refused(refusal),
+    }
+}
+
+fn elevation_of(n: u16) -> Elevation
+    ensures { λ r. ⌜ r ≡ elevationOf n ⌝ }
+{
+    if n == 0xFFFF {
+        Elevation::Missing
+    } else {
+        Elevation::Hundredths(octets::signed16(n))
+    }
+}
+
+fn info_of(file: &[u8], c: Cut) -> CutInfo
+    ensures { λ r. ⌜ r ≡ infoOf (now (file .entry)) c ⌝ }
+{
+    let section3 = c.section3;
+    let section4 = c.section4;
+    let nb = rules::field32(file, section3, 15);
+    let nr = rules::field32(file, section3, 19);
+    let latitude = octets::signed32(rules::field32(file, section3, 23));
+    let longitude = rules::field32(file, section3, 27);
+    let dx = rules::field32(file, section3, 31);
+    let dstart = rules::field32(file, section3, 35);
+    let start_azimuth = rules::field16(file, section3, 40);
+    let octet38 = rules::field8(file, section4, 38);
+    let elevation = elevation_of(rules::field16(file, section4, 42));
+    CutInfo {
+        nb,
+        nr,
+        latitude,
+        longitude,
+        dx,
+        dstart,
+        start_azimuth,
+        octet38,
+        elevation,
+    }
+}
+
+// Cut: what the file says of cut i.
+pub fn cut_info(file: &[u8], i: usize) -> CutAnswer
+    ensures { λ r. ⌜ r ≡ cutAnswer (now (file .entry)) i ⌝ }
+{
+    match layout::walk(file, i) {
+        Walked::Whole(f) => {
+            let c = f.cut;
+            if i < f.cuts {
+                return CutAnswer::Cut(info_of(file, c));
+            }
+            CutAnswer::Refused(AskRefusal::Argument)
+        }
+        Walked::Rejected(refusal) => CutAnswer::Refused(AskRefusal::File(refusal)),
+    }
+}
+
+// ---- rays and bins
+
+fn ray_levels_on(file: &[u8], c: Cut, ray: usize, out: &mut [u8]) -> RayAnswer
+    requires { ⌜ GoodCut (now file) c ⌝ }
+    ensures { λ r. ⌜ r ≡ rayOn (now (file .entry)) ray (length (now (out .entry))) c ⌝ }
+    ensures { λ r. ⌜ now (out .exit) ≡ ifWritten r (front (rayIn (now (file .entry)) c ray) (now (out .entry))) (now (out .entry)) ⌝ }
+{
+    let nr = cuts::rays_in(file, c);
+    let nb = cuts::bins_in(file, c);
+    if nr <= ray {
+        return RayAnswer::Refused(FillRefusal::Argument);
+    }
+    if out.len() < nb {
+        return RayAnswer::Refused(FillRefusal::Room);
+    }
+    cuts::ray_into(file, c, ray, out);
+    RayAnswer::Written
+}
+
+// Ray levels: Nb octets at the front of out.
+pub fn ray_levels(file: &[u8], i: usize, ray: usize, out: &mut [u8]) -> RayAnswer
+    ensures { λ r. ⌜ r ≡ rayAnswer (now (file .entry)) i ray (length (now (out .entry))) ⌝ }
+    ensures { λ r. ⌜ now (out .exit) ≡ levelsAfter r (now (file .entry)) i ray (now (out .entry)) ⌝ }
+{
+    match layout::walk(file, i) {
+        Walked::Whole(f) => {
+            let c = f.cut;
+            if i < f.cuts {
+                return ray_levels_on(file, c, ray, out);
+            }
+            RayAnswer::Refused(FillRefusal::Argument)
+        }
+        Walked::Rejected(refusal) => RayAnswer::Refused(FillRefusal::File(refusal)),
+    }
+}
+
+// The ray's levels are written at the front of the marks, and converted in place: no room of its own is needed.
+fn ray_values_on(file: &[u8], c: Cut, ray: usize, marks: &mut [u8], values: &mut [i32]) -> RayAnswer
+    requires { ⌜ GoodCut (now file) c ⌝ }
+    ensures { λ r. ⌜ r ≡ rayOn (now (file .entry)) ray (min (length (now (marks .entry))) (length (now (values .entry)))) c ⌝ }
+    ensures { λ r. ⌜ now (marks .exit) ≡ ifWritten r (marksOf (productIn (now (file .entry)) c) (rayIn (now (file .entry)) c ray) (now (marks .entry))) (now (marks .entry)) ⌝ }
+    ensures { λ r. ⌜ now (values .exit) ≡ ifWritten r (valuesOf (productIn (now (file .entry)) c) (rayIn (now (file .entry)) c ray) (now (values .entry))) (now (values .entry)) ⌝ }
+{
+    let nr = cuts::rays_in(file, c);
+    let nb = cuts::bins_in(file, c);
+    if nr <= ray {
+        return RayAnswer::Refused(FillRefusal::Argument);
+    }
+    if marks.len() < nb {
+        return RayAnswer::Refused(FillRefusal::Room);
+    }
+    if values.len() < nb {
+        return RayAnswer::Refused(FillRefusal::Room);
+    }
+    let product = layout::product_in(file, c);
+    cuts::ray_into(file, c, ray, marks);
+    values::convert(product, nb, marks, values);
+    RayAnswer::Written
+}
+
+// Ray values: Nb marks, and the value at each measured place.
+pub fn ray_values(
+    file: &[u8],
+    i: usize,
+    ray: usize,
+    marks: &mut [u8],
+    values: &mut [i32],
+) -> RayAnswer
+    ensures { λ r. ⌜ r ≡ rayAnswer (now (file .entry)) i ray (min (length (now (marks .entry))) (length (now (values .entry)))) ⌝ }
+    ensures { λ r. ⌜ now (marks .exit) ≡ marksAfter r (now (file .entry)) i ray (now (marks .entry)) ⌝ }
+    ensures { λ r. ⌜ now (values .exit) ≡ valuesAfter r (now (file .entry)) i ray (now (values .entry)) ⌝ }
+{
+    match layout::walk(file, i) {
+        Walked::Whole(f) => {
+            let c = f.cut;
+            if i < f.cuts {
+                return ray_values_on(file, c, ray, marks, values);
+            }
+            RayAnswer::Refused(FillRefusal::Argument)
+        }
+        Walked::Rejected(refusal) => RayAnswer::Refused(FillRefusal::File(refusal)),
+    }
+}
+
+// A reading as the bin call answers it.
+fn bin_of(reading: Reading) -> BinAnswer
+    ensures { λ r. ⌜ r ≡ binOf reading ⌝ }
+{
+    match reading {
+        Reading::Missing => BinAnswer::Missing,
+        Reading::Number(z) => BinAnswer::Value(fraction::hundredths_of(z)),
+    }
+}
+
+fn bin_value_on(file: &[u8], c: Cut, ray: usize, bin: usize) -> BinAnswer
+    requires { ⌜ GoodCut (now file) c ⌝ }
+    ensures { λ r. ⌜ r ≡ binOn (now (file .entry)) ray bin c ⌝ }
+{
+    let nr = cuts::rays_in(file, c);
+    let nb = cuts::bins_in(file, c);
+    if nr <= ray {
+        return BinAnswer::Refused(AskRefusal::Argument);
+    }
+    if nb <= bin {
+        return BinAnswer::Refused(AskRefusal::Argument);
+    }
+    let product = layout::product_in(file, c);
+    bin_of(values::reading_of(product, cuts::level_in(file, c, ray, bin)))
+}
+
+// Bin value: missing, or the value.
+pub fn bin_value(file: &[u8], i: usize, ray: usize, bin: usize) -> BinAnswer
+    ensures { λ r. ⌜ r ≡ binAnswer (now (file .entry)) i ray bin ⌝ }
+{
+    match layout::walk(file, i) {
+        Walked::Whole(f) => {
+            let c = f.cut;
+            if i < f.cuts {
+                return bin_value_on(file, c, ray, bin);
+            }
+            BinAnswer::Refused(AskRefusal::Argument)
+        }
+        Walked::Rejected(refusal) => BinAnswer::Refused(AskRefusal::File(refusal)),
+    }
+}
+
+// ---- stretches
+
+fn stretches_on(
+    file: &[u8],
+    c: Cut,
+    t: i32,
+    ray: usize,
+    bin: usize,
+    words: &mut [u32],
+) -> StretchAnswer
+    requires { ⌜ GoodCut (now file) c ⌝ }
+    ensures { λ r. ⌜ r ≡ stretchesOn (now (file .entry)) t ray bin (length (now (words .entry))) c ⌝ }
+    ensures { λ r. ⌜ now (words .exit) ≡ ifListed r (outOf (now (words .entry)) (stretchesIn (now (file .entry)) c t ray bin)) (now (words .entry)) ⌝ }
+{
+    let nr = cuts::rays_in(file, c);
+    let nb = cuts::bins_in(file, c);
+    if !stretches::right_t(t) {
+        return StretchAnswer::Refused(FillRefusal::Argument);
+    }
+    if !stretches::right_point(nb, nr, ray, bin) {
+        return StretchAnswer::Refused(FillRefusal::Argument);
+    }
+    if words.len() < stretches::WORDS {
+        return StretchAnswer::Refused(FillRefusal::Room);
+    }
+    StretchAnswer::Listed(cuts::list_into(file, c, t, ray, bin, words))
+}
+
+// Stretches: those that start at or past the point (ray, bin), as many as the words have room for.
+pub fn stretches(
+    file: &[u8],
+    i: usize,
+    t: i32,
+    ray: usize,
+    bin: usize,
+    words: &mut [u32],
+) -> StretchAnswer
+    ensures { λ r. ⌜ r ≡ stretchAnswer (now (file .entry)) i t ray bin (length (now (words .entry))) ⌝ }
+    ensures { λ r. ⌜ now (words .exit) ≡ wordsAfter r (now (file .entry)) i t ray bin (now (words .entry)) ⌝ }
+{
+    match layout::walk(file, i) {
+        Walked::Whole(f) => {
+            let c = f.cut;
+            if i < f.cuts {
+                return stretches_on(file, c, t, ray, bin, words);
+            }
+            StretchAnswer::Refused(FillRefusal::Argument)
+        }
+        Walked::Rejected(refusal) => StretchAnswer::Refused(FillRefusal::File(refusal)),
+    }
+}
+
+// The house form.
+pub fn house_stretches(
+    file: &[u8],
+    i: usize,
+    ray: usize,
+    bin: usize,
+    words: &mut [u32],
+) -> StretchAnswer
+    ensures { λ r. ⌜ r ≡ stretchAnswer (now (file .entry)) i house ray bin (length (now (words .entry))) ⌝ }
+    ensures { λ r. ⌜ now (words .exit) ≡ wordsAfter r (now (file .entry)) i house ray bin (now (words .entry)) ⌝ }
+{
+    stretches(file, i, HOUSE, ray, bin, words)
+}
