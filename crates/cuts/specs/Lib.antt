@@ -1,1 +1,2 @@
 pub mod Bins
+pub mod After

@@ -4,7 +4,7 @@
 use layout::Cut;
 use stretches::Listing;
 ghost use mathlib.Core.Path.{_≡_};
-ghost use mathlib.Core.Bool.{true};
+ghost use mathlib.Core.Bool.{true, cond};
 ghost use Prim.Native.Nat.{_+_, _*_, _≤_, _<_};
 ghost use lib.ListN.{length};
 ghost use Rattle.runs.specs.Lent.{front};
@@ -13,6 +13,7 @@ ghost use Rattle.layout.specs.Parts.{dataAt, productIn, binsIn, raysIn, greates
 ghost use Rattle.layout.specs.Good.{GoodCut};
 ghost use Rattle.stretches.specs.Call.{answerOf, outOf, rightPoint};
 ghost use Rattle.cuts.specs.Bins.{binsFrom, rayIn, stretchesIn};
+ghost use Rattle.cuts.specs.After.{cutAfter};
 
 // Nb, Nr and V of a cut.
 pub fn bins_in(file: &[u8], c: Cut) -> usize
@@ -94,4 +95,28 @@ pub fn list_into(file: &[u8], c: Cut, t: i32, ray: usize, bin: usize, words: &mu
     let product = layout::product_in(file, c);
     let v = greatest_in(file, c);
     stretches::list_from(data_in(file, c), v, product, t, nb, nr, ray, bin, words)
+}
+
+// The cut that follows a cut of an accepted file, by the lengths of its sections: no check is made again.
+pub fn next_cut(file: &[u8], c: Cut) -> Cut
+    ensures { λ r. ⌜ r ≡ cutAfter (now (file .entry)) c ⌝ }
+{
+    let at = layout::end_at(file, c.section7);
+    let own = rules::field8(file, at, 5) == 3;
+    let section3 = pick(own, at, c.section3);
+    let section4 = pick(own, layout::end_at(file, at), at);
+    let section5 = layout::end_at(file, section4);
+    let section7 = layout::end_at(file, layout::end_at(file, section5));
+    Cut {
+        section3,
+        section4,
+        section5,
+        section7,
+    }
+}
+
+fn pick(b: bool, x: usize, y: usize) -> usize
+    ensures { λ r. ⌜ r ≡ cond b x y ⌝ }
+{
+    if b { x } else { y }
 }

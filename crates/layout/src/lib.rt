@@ -148,12 +148,15 @@ fn ends_by(at: usize, n: usize, end: usize) -> bool
     if end < at { false } else { n <= end - at }
 }
 
-// The place past the section at a place.
+// The place past the section at a place. Past the file a length reads as 0.
 pub fn end_at(s: &[u8], at: usize) -> usize
-    requires { ⌜ at + lengthAt (now s) at ≤ length (now s) ⌝ }
     ensures { λ r. ⌜ r ≡ at + lengthAt (now (s .entry)) at ⌝ }
 {
-    at + place(rules::field32(s, at, 1))
+    if at < s.len() {
+        at + place(rules::field32(s, at, 1))
+    } else {
+        at
+    }
 }
 
 // The value table of the section 5 at a place, and the data of the section 7 at a place, which lie within the file.
