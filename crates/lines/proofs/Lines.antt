@@ -23,13 +23,12 @@ kind-over (suc (suc k)) h g = refl
 -- the pieces of an entry's line, where the numbers are those of the entry
 pub entry-put : (x : Entry) {d e f g h : List ℕ} {at a b c r p q m k : ℕ}
     → Put d at (decimal p) e a → Put e a (ascii " " ++ decimal q) f b → Put f b (ascii " " ++ decimal m) g c → Put g c (kindWord k ++ newline) h r
-    → (a ≤ length d) × (b ≤ length e) × (c ≤ length f)
     → (p ≡ x .ray) × (q ≡ x .first) × (m ≡ x .len) × (k ≡ x .kind)
     → Put d at (entryLine x) h r
 unfolding entryLine
-entry-put x one two three four room is =
+entry-put x one two three four is =
     named (λ i. decimal (is .0 i) ++ ((ascii " " ++ decimal (is .1 i)) ++ ((ascii " " ++ decimal (is .2 i)) ++ (kindWord (is .3 i) ++ newline))))
-    (then one (then two (then three four (room .2)) (room .1)) (room .0))
+    (then one (then two (then three four)))
 
 -- ---- line after line
 pub entries-more : (ws : List ℕ) (i n : ℕ) → 0 < n → entryLine (entryIn ws i) ++ entryLines (entriesIn ws (i + 1) (n - 1)) ≡ entryLines (entriesIn ws i n)
@@ -42,14 +41,15 @@ unfolding entriesIn entryLines
 entries-none ws i n h = rw h
 
 -- what the rest of the lines would make of the octets is the same before a line is put and after it
-pub more-put : (ws d e : List ℕ) (at a i n : ℕ) → 0 < n → Put d at (entryLine (entryIn ws i)) e a → a ≤ length d
+pub more-put : (ws d e : List ℕ) (at a i n : ℕ) → 0 < n → Put d at (entryLine (entryIn ws i)) e a
     → (placed e a (entryLines (entriesIn ws (i + 1) (n - 1))) ≡ placed d at (entryLines (entriesIn ws i n)))
     × (a + length (entryLines (entriesIn ws (i + 1) (n - 1))) ≡ at + length (entryLines (entriesIn ws i n)))
-more-put ws d e at a i n some x room =
+more-put ws d e at a i n some x =
     let line : List ℕ = entryLine (entryIn ws i) in
     let rest : List ℕ = entryLines (entriesIn ws (i + 1) (n - 1)) in
     let whole = entries-more ws i n some in
-    let p = x .past in (
+    let p = x .past in
+    let room = x .inside in (
       (λ j. placed (x .there j) (x .past j) rest) ∙ placed-append d at line rest (omega arith) ∙ ap (λ (l : List ℕ). placed d at l) whole,
       omega (arith, ap length whole, length-append line rest),
     )

@@ -7,7 +7,7 @@ use native.Mathlib.Omega.{arith}
 use lib.ListN.{length, take, drop, set, getD, length-append}
 use lib.Seq.{length-take-le, take-suc, take-at, drop-append-add, drop-drop}
 use Rattle.runs.specs.Lent.{placed}
-use Rattle.runs.proofs.Lent.{placed-more, placed-set, first-put}
+use Rattle.runs.proofs.Lent.{placed-more, length-placed, placed-set, first-put}
 use Rattle.lines.specs.Put.{Put}
 use Rattle.lines.specs.Text.{digit, decimal}
 use Rattle.lines.proofs.Decimal.{decimal-one, decimal-more, decimal-longer, decimal-some}
@@ -40,11 +40,15 @@ module _ (d : List ℕ) (at : ℕ) (p q : List ℕ) (room : at + length p ≤ le
       next = omega (arith, length-append p q)
 
 -- one text, and then another
-pub then : {d e f : List ℕ} {at a b : ℕ} {p q : List ℕ} → Put d at p e a → Put e a q f b → a ≤ length d → Put d at (p ++ q) f b
-then {d} {e} {f} {at} {a} {b} {p} {q} x y room = record {
-  there = y .there ∙ (λ i. placed (x .there i) (x .past i) q) ∙ placed-append d at p q (omega (arith, x .past));
-  past = omega (arith, y .past, x .past, length-append p q);
-}
+pub then : {d e f : List ℕ} {at a b : ℕ} {p q : List ℕ} → Put d at p e a → Put e a q f b → Put d at (p ++ q) f b
+then {d} {e} {f} {at} {a} {b} {p} {q} x y =
+    let room : at + length p ≤ length d = omega (arith, x .past, x .inside) in
+    let size : length e ≡ length d = ap length (x .there) ∙ length-placed d at p room in
+    record {
+      there = y .there ∙ (λ i. placed (x .there i) (x .past i) q) ∙ placed-append d at p q room;
+      past = omega (arith, y .past, x .past, length-append p q);
+      inside = omega (arith, y .inside);
+    }
 
 -- the same text by another name
 pub named : {d e : List ℕ} {at a : ℕ} {p q : List ℕ} → p ≡ q → Put d at p e a → Put d at q e a
@@ -55,6 +59,7 @@ pub one-digit : (d : List ℕ) (at n : ℕ) → n < 10 → at < length d → Put
 one-digit d at n h room = record {
   there = first-put d at (digit n) room ∙ placed-set d at (digit n) (digit n ∷ []) (omega arith) ∙ ap (λ (l : List ℕ). placed d at l) (sym (decimal-one n h));
   past = ap (λ (l : List ℕ). at + length l) (sym (decimal-one n h));
+  inside = omega arith;
 }
 
 pub last-digit : (d e : List ℕ) (at a n : ℕ) → 10 ≤ n → Put d at (decimal (n / 10)) e a → at + length (decimal n) ≤ length d
@@ -67,4 +72,5 @@ last-digit d e at a n h x room =
           ∙ placed-more d at (decimal (n / 10)) (digit (n % 10)) (omega arith)
           ∙ ap (λ (l : List ℕ). placed d at l) (sym (decimal-more n h));
       past = omega (arith, x .past);
+      inside = omega (arith, x .past);
     }

@@ -23,8 +23,7 @@ same-length c = search needs
 
 returns : tie.Need-returns
 unfolding endLine
-returns c = let a = c .before .before .before .before .before .before .before .put-named in
-    then (a .ensures .0) (c .before .before .put-octets .ensures) (omega (arith, c .before .before .before .before .before .before .before .before .before .before .before .pre, a .ensures .1))
+returns c = then (c .before .before .before .before .before .before .before .put-named .ensures .0) (c .before .before .put-octets .ensures)
 
 pub put-end-spec : {M : Type 1} → statement M
 put-end-spec =

@@ -41,7 +41,7 @@ loop-again c = let e = c .before .before .put-entry in
     let l = c .before .before .before .before .before .loop in
     let n = e .ensures .1 in
     let k = e .kept .0 in
-    let next = more-put (c .before .before .before .before .before .before .before .before .args .words .now) (l .out) (e .last .0) (l .to) (e .result) (l .i) (l .left) (omega arith) (e .ensures .0) (omega (arith, c .before .before .before .before .before .before .before .before .pre .1)) in
+    let next = more-put (c .before .before .before .before .before .before .before .before .args .words .now) (l .out) (e .last .0) (l .to) (e .result) (l .i) (l .left) (omega arith) (e .ensures .0) in
     (omega arith, omega arith, k ∙ l .inv .2, next .0 ∙ l .inv .3, next .1 ∙ l .inv .4)
 
 same-length : tie.Need-same-length Inv-loop μ-loop
@@ -50,7 +50,7 @@ same-length c = c .before .loop .inv .2
 returns : tie.Need-returns Inv-loop μ-loop
 returns c = let l = c .before .loop in
     let none = entries-none (c .before .before .before .before .args .words .now) (l .i) (l .left) (c .loop-test .left) in
-    record { there = placed-none (l .out) (l .to) ∙ ap (λ (t : List ℕ). placed (l .out) (l .to) t) (sym none) ∙ l .inv .3; past = omega (arith, ap length none, l .inv .4) }
+    record { there = placed-none (l .out) (l .to) ∙ ap (λ (t : List ℕ). placed (l .out) (l .to) t) (sym none) ∙ l .inv .3; past = omega (arith, ap length none, l .inv .4); inside = omega (arith, c .before .before .before .before .pre .1) }
 
 pub put-entries-spec : {M : Type 1} → statement M
 put-entries-spec =

@@ -77,20 +77,14 @@ same-length : tie.Need-same-length
 same-length c = search needs
 
 returns : tie.Need-returns
-returns c = let s = c .before .before .before .before .before .before .before .before .before .before .before .before .before .before .before .before .before .before .before .before .before .before .before .before .before .before .before .before .pre in
-    let a = c .before .before .before .before .before .before .before .before .before .before .before .before .before .before .before .before .before .before .before .before .before .put-named in
-    let b = c .before .before .before .before .before .before .before .before .before .before .before .before .before .before .put-named2 in
-    let p = c .before .before .before .before .before .before .before .put-named3 in
-    let k = c .before .before .put-kind in
-    let n1 = a .ensures .1 in
-    let n2 = b .ensures .1 in
-    let n3 = p .ensures .1 in
-    let n4 = k .ensures .1 in
-    let k1 = a .kept .0 in
-    let k2 = b .kept .0 in (
-      entry-put (entryIn (c .before .before .before .before .before .before .before .before .before .before .before .before .before .before .before .before .before .before .before .before .before .before .before .before .before .before .before .before .args .words .now) (c .before .before .before .before .before .before .before .before .before .before .before .before .before .before .before .before .before .before .before .before .before .before .before .before .before .before .before .before .args .i)) (a .ensures .0) (b .ensures .0) (p .ensures .0) (k .ensures .0) (omega arith, omega arith, omega arith)
-          (c .before .before .before .before .before .before .before .before .before .before .before .before .before .before .before .before .before .before .before .before .before .before .wide .ensures, c .before .before .before .before .before .before .before .before .before .before .before .before .before .before .before .wide2 .ensures, c .before .before .before .before .before .before .before .before .wide3 .ensures, refl),
-      omega arith,
+returns c = let d = c .before .before .before .before .before .before .before in
+    let b = d .before .before .before .before .before .before .before in
+    let a = b .before .before .before .before .before .before .before in
+    let s = a .before .before .before .before .before .before .before in
+    let k = c .before .before .put-kind in (
+      entry-put (entryIn (s .args .words .now) (s .args .i)) (a .put-named .ensures .0) (b .put-named2 .ensures .0) (d .put-named3 .ensures .0) (k .ensures .0)
+          (a .before .wide .ensures, b .before .wide2 .ensures, d .before .wide3 .ensures, refl),
+      omega (arith, a .put-named .ensures .1, b .put-named2 .ensures .1, d .put-named3 .ensures .1, k .ensures .1),
     )
 
 pub put-entry-spec : {M : Type 1} → statement M

@@ -47,26 +47,14 @@ same-length c = search needs
 
 returns : tie.Need-returns
 unfolding headLine
-returns c = let s = c .before .before .before .before .before .before .before .before .before .before .before .before .before .before .before .before .before .before .before .before .before .before .before .before .before .before .before .before .before .before .before .pre in
-    let a = c .before .before .before .before .before .before .before .before .before .before .before .before .before .before .before .before .before .before .before .before .before .before .before .before .before .before .before .put-named in
-    let b = c .before .before .before .before .before .before .before .before .before .before .before .before .before .before .before .before .before .before .before .before .before .before .put-named2 in
-    let p = c .before .before .before .before .before .before .before .before .before .before .before .before .before .before .before .before .before .put-named3 in
-    let q = c .before .before .before .before .before .before .before .before .before .before .before .before .put-named4 in
-    let e = c .before .before .before .before .before .before .before .put-named5 in
-    let n1 = a .ensures .1 in
-    let n2 = b .ensures .1 in
-    let n3 = p .ensures .1 in
-    let n4 = q .ensures .1 in
-    let n5 = e .ensures .1 in
-    let k1 = a .kept .0 in
-    let k2 = b .kept .0 in
-    let k3 = p .kept .0 in
-    let k4 = q .kept .0 in
-    then (a .ensures .0)
-    (then (b .ensures .0)
-    (then (p .ensures .0) (then (q .ensures .0) (then (e .ensures .0) (c .before .before .put-octets .ensures) (omega arith)) (omega arith)) (omega arith))
-    (omega arith))
-    (omega arith)
+returns c = let e = c .before .before .before .before .before .before .before in
+    let d = e .before .before .before .before .before in
+    let r = d .before .before .before .before .before in
+    let b = r .before .before .before .before .before in
+    let a = b .before .before .before .before .before in
+    then (a .put-named .ensures .0)
+    (then (b .put-named2 .ensures .0)
+    (then (r .put-named3 .ensures .0) (then (d .put-named4 .ensures .0) (then (e .put-named5 .ensures .0) (c .before .before .put-octets .ensures)))))
 
 pub put-head-spec : {M : Type 1} → statement M
 put-head-spec =

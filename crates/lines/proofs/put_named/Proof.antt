@@ -16,10 +16,11 @@ same-length : tie.Need-same-length
 same-length c = search needs
 
 returns : tie.Need-returns
-returns c = let p = c .before .before .before .before .before .before .put-octets in
+returns c = let s = c .before .before .before .before .before .before .before .before .before .before in
+    let p = c .before .before .before .before .before .before .put-octets in
     let n = c .before .before .put-decimal in
-    let size = twenty (c .before .before .before .before .before .before .before .before .before .before .args .n) (omega (arith, c .before .before .before .before .before .before .before .before .before .before .fits)) in
-    (then (p .ensures) (n .ensures) (omega (arith, c .before .before .before .before .before .before .before .before .before .before .pre, p .ensures .past)), omega (arith, p .ensures .past, n .ensures .past))
+    let size = twenty (s .args .n) (omega (arith, s .fits)) in
+    (then (p .ensures) (n .ensures), omega (arith, p .ensures .past, n .ensures .past))
 
 pub put-named-spec : {M : Type 1} → statement M
 put-named-spec = tie.close (tie.spec put-octets-requires put-decimal-requires same-length returns)

@@ -58,7 +58,7 @@ returns : tie.Need-returns Inv-loop μ-loop
 returns c = let a = c .before .before .args in
     let l = c .before .loop in
     let all : take (l .i) (a .s .now) ≡ a .s .now = take-all (l .i) (a .s .now) (omega arith) in
-    record { there = l .inv .1 ∙ ap (λ (t : List ℕ). placed (a .out .now) (a .at) t) all; past = omega arith }
+    record { there = l .inv .1 ∙ ap (λ (t : List ℕ). placed (a .out .now) (a .at) t) all; past = omega arith; inside = omega (arith, c .before .before .pre) }
 
 pub put-octets-spec : {M : Type 1} → statement M
 put-octets-spec =

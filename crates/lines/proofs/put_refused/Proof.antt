@@ -29,9 +29,9 @@ same-length c = search needs
 
 returns : tie.Need-returns
 unfolding refusedLine
-returns c = let a = c .before .before .before .before .before .before .before .before .before .before .before .before .put-named in
-    let b = c .before .before .before .before .before .before .before .put-named2 in
-    then (a .ensures .0) (then (b .ensures .0) (c .before .before .put-octets .ensures) (omega (arith, c .before .before .before .before .before .before .before .before .before .before .before .before .before .before .before .before .pre, a .ensures .1, b .ensures .1, a .kept .0))) (omega (arith, c .before .before .before .before .before .before .before .before .before .before .before .before .before .before .before .before .pre, a .ensures .1))
+returns c = let b = c .before .before .before .before .before .before .before in
+    let a = b .before .before .before .before .before in
+    then (a .put-named .ensures .0) (then (b .put-named2 .ensures .0) (c .before .before .put-octets .ensures))
 
 pub put-refused-spec : {M : Type 1} → statement M
 put-refused-spec =
