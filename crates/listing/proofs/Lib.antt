@@ -1,0 +1,4 @@
+pub mod AllCuts
+pub mod Portion
+pub mod Turning
+pub mod Moving

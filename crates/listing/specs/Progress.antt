@@ -8,7 +8,7 @@ use Rattle.layout.specs.Parts.{binsIn, raysIn}
 use Rattle.layout.specs.Refusal.{numberOf, placeOf}
 use Rattle.layout.specs.Verdict.{Verdict, accepted, refused, verdict, noCut}
 use Rattle.layout.specs.declared.Cut.{Cut}
-use Rattle.stretches.specs.Stretch.{Entry}
+use Rattle.stretches.specs.Stretch.{Entry, perEntry}
 use Rattle.stretches.specs.Call.{answerOf, rightPoint}
 use Rattle.stretches.specs.declared.Listing.{Listing}
 use Rattle.runs.specs.Lent.{front}
@@ -59,20 +59,28 @@ finished (Show t l k) = false
 finished (End n) = false
 finished Finished = true
 
--- a turn at a cut of the file, at a right point; the sum of entries stays small
+-- a turn at a cut of the file, at a right point with entries to come; the sum of entries stays small
 pub record On (s : List ℕ) (t : Turn) : Type 0 where
   pub within : t .number < length (cutsIn s)
   pub all : t .cuts ≡ length (cutsIn s)
   pub is : t .cut ≡ getD (cutsIn s) (t .number) noCut
   pub point : rightPoint (binsIn s (t .cut)) (raysIn s (t .cut)) (t .ray) (t .bin) ≡ true
+  pub some : 0 < length (listOf s t)
   pub few : t .total + length (listOf s t) ≤ suc (t .number) * 2097152
 
--- the words hold what was listed from the turn's point, of which k entries were shown
-pub record Held (s ws : List ℕ) (t : Turn) (l : Listing) (k : ℕ) : Type 0 where
+-- l answers for the turn's list and some room
+pub record Listed (s : List ℕ) (t : Turn) (l : Listing) : Type 0 where
   pub on : On s t
-  pub answer : l ≡ answerOf (raysIn s (t .cut)) (length ws) (listOf s t)
+  pub room : ℕ
+  pub for-one : perEntry ≤ room
+  pub answer : l ≡ answerOf (raysIn s (t .cut)) room (listOf s t)
+
+-- the words hold the entries that l counts, of which k were written
+pub record Held (s ws : List ℕ) (t : Turn) (l : Listing) (k : ℕ) : Type 0 where
+  pub listed : Listed s t l
+  pub inside : perEntry * l .count ≤ length ws
   pub holds : entriesIn ws 0 (l .count) ≡ take (l .count) (listOf s t)
-  pub shown : k ≤ l .count
+  pub shown : k < l .count
 
 unfoldable pub Sound : List ℕ → List ℕ → Progress → Type 0
 Sound s ws (Refused r) = Unit {0}
@@ -82,17 +90,22 @@ Sound s ws (Show t l k) = Held s ws t l k
 Sound s ws (End n) = Unit {0}
 Sound s ws Finished = Unit {0}
 
--- how many steps may still come, at most: a step writes something, or goes from Fill to Show, or leaves Show
+-- r is sound, and the text is still to come there
+pub record Reaches (s ws text : List ℕ) (r : Progress) : Type 0 where
+  pub comes : textFrom s r ≡ text
+  pub sound : Sound s ws r
+
+-- how many steps may still come: each writes something, but for the one from Fill to Show
 abbrev pub rank : Progress → ℕ
 rank (Refused r) = 0
 rank (Head t) = 0
-rank (Fill t) = 2
-rank (Show t l k) = 1
+rank (Fill t) = 1
+rank (Show t l k) = 0
 rank (End n) = 0
 rank Finished = 0
 
 unfoldable pub stepsLeft : List ℕ → Progress → ℕ
-stepsLeft s p = 3 * length (textFrom s p) + rank p
+stepsLeft s p = 2 * length (textFrom s p) + rank p
 
 -- a step from p to r: what it puts at a place is the beginning of what was to come
 pub record Goes (s ws before : List ℕ) (p : Progress) (at : ℕ) (after : List ℕ) (r : Stepped) : Type 0 where
@@ -102,7 +115,7 @@ pub record Goes (s ws before : List ℕ) (p : Progress) (at : ℕ) (after : List
   pub sound : Sound s ws (r .next)
   pub falls : finished p ≡ false → stepsLeft s (r .next) < stepsLeft s p
 
--- a page from p to r: its octets are the first of what was to come, at the front of the lent text; and there is one at least where anything is to come
+-- a page from p to r: the first of what was to come, at the front of the lent text; an octet at least, where anything is to come
 pub record Paged (s ws before : List ℕ) (p : Progress) (after : List ℕ) (r : Written) : Type 0 where
   pub inside : r .len ≤ length (textFrom s p)
   pub holds : after ≡ front (take (r .len) (textFrom s p)) before

@@ -12,9 +12,10 @@ ghost use mathlib.Core.List.{List};
 ghost use Prim.Native.Nat.{ℕ, _+_, _≤_};
 ghost use lib.ListN.{length};
 ghost use Rattle.layout.specs.Refusal.{numberOf, placeOf};
+ghost use Rattle.stretches.specs.Stretch.{perEntry};
 ghost use Rattle.lines.specs.Put.{Put};
 ghost use Rattle.listing.specs.Listing.{productNumber, headOf, textOf};
-ghost use Rattle.listing.specs.Progress.{textFrom, turnText, finished, On, Held, Sound, Goes, Paged};
+ghost use Rattle.listing.specs.Progress.{textFrom, turnText, finished, rank, On, Listed, Held, Sound, Reaches, Goes, Paged};
 
 // The house threshold, in hundredths.
 const HOUSE: i32 = 4000;
@@ -157,7 +158,8 @@ fn put_first_line(file: &[u8], t: Turn, text: &mut [u8], at: usize) -> usize
 
 // Past the entries of a listing: more of the same cut, the next cut, or the end.
 fn moved_on(file: &[u8], t: Turn, l: Listing) -> Progress
-    ensures { λ r. ⌜ r ≡ r ⌝ }
+    requires { ⌜ Listed (now file) t l ⌝ }
+    ensures { λ r. ⌜ ((ws : List ℕ) → Reaches (now (file .entry)) ws (turnText (now (file .entry)) t (l .count)) r) ⌝ }
 {
     let cut = t.cut;
     let total = t.total + l.count;
@@ -188,7 +190,9 @@ fn moved_on(file: &[u8], t: Turn, l: Listing) -> Progress
 
 // The entries of a turn, listed into the words.
 fn fill(file: &[u8], t: Turn, words: &mut [u32]) -> Progress
-    ensures { λ r. ⌜ r ≡ r ⌝ }
+    requires { ⌜ (On (now file) t) × (perEntry ≤ length (now words)) ⌝ }
+    ensures { λ r. ⌜ Reaches (now (file .entry)) (now (words .exit)) (turnText (now (file .entry)) t 0) r ⌝ }
+    ensures { λ r. ⌜ rank r ≡ 0 ⌝ }
 {
     let cut = t.cut;
     let listing = cuts::list_into(file, cut, HOUSE, t.ray, t.bin, words);
@@ -205,7 +209,9 @@ fn show(
     text: &mut [u8],
     at: usize,
 ) -> Stepped
-    ensures { λ r. ⌜ r ≡ r ⌝ }
+    requires { ⌜ Held (now file) (now words) t l shown ⌝ }
+    requires { ⌜ at + 20992 ≤ length (now text) ⌝ }
+    ensures { λ r. ⌜ Goes (now (file .entry)) (now (words .entry)) (now (text .entry)) (Progress.Show t l shown) at (now (text .exit)) r ⌝ }
 {
     let n = least(l.count - shown, LINES);
     let to = lines::put_entries(text, at, words, shown, n);
@@ -221,7 +227,9 @@ fn show(
 
 // One step: a line, some lines, or a listing.
 fn step(file: &[u8], p: Progress, words: &mut [u32], text: &mut [u8], at: usize) -> Stepped
-    ensures { λ r. ⌜ r ≡ r ⌝ }
+    requires { ⌜ Sound (now file) (now words) p ⌝ }
+    requires { ⌜ (perEntry ≤ length (now words)) × (at + 20992 ≤ length (now text)) ⌝ }
+    ensures { λ r. ⌜ Goes (now (file .entry)) (now (words .exit)) (now (text .entry)) p at (now (text .exit)) r ⌝ }
 {
     match p {
         Progress::Refused(refusal) => {
@@ -259,7 +267,9 @@ fn step(file: &[u8], p: Progress, words: &mut [u32], text: &mut [u8], at: usize)
 
 // The next page of the text, at the front of `text`.
 pub fn page(file: &[u8], p: Progress, words: &mut [u32], text: &mut [u8]) -> Written
-    ensures { λ r. ⌜ r ≡ r ⌝ }
+    requires { ⌜ Sound (now file) (now words) p ⌝ }
+    requires { ⌜ (perEntry ≤ length (now words)) × (20992 ≤ length (now text)) ⌝ }
+    ensures { λ r. ⌜ Paged (now (file .entry)) (now (words .exit)) (now (text .entry)) p (now (text .exit)) r ⌝ }
 {
     let mut next = p;
     let mut at: usize = 0;

@@ -1,0 +1,21 @@
+use borrow.Author.Needs.{needs}
+use Rattle.listing.proofs.fill.Statement.{statement}
+use Rattle.listing.proofs.fill.Tie as tie
+use Rattle.listing.proofs.fill.Reads as reads
+use Rattle.listing.proofs.fill.Lts as lts
+use Rattle.cuts.proofs.list_into.Reads as list-into-reads
+
+-- src/lib.rt:198:9
+list-into-requires : tie.Need-list-into-requires
+list-into-requires c κs = ?
+
+-- src/lib.rt:192:1
+same-length : tie.Need-same-length
+same-length c = search needs
+
+-- src/lib.rt:192:1
+returns : tie.Need-returns
+returns c = ?
+
+pub fill-spec : {M : Type 1} → statement M
+fill-spec = tie.close (tie.spec list-into-requires same-length returns)
