@@ -7,7 +7,7 @@ use native.Mathlib.Omega.{arith}
 use lib.ListN.{length, take, drop, set, getD, length-append}
 use lib.Seq.{length-take-le, take-suc, take-at, drop-append-add, drop-drop}
 use Rattle.runs.specs.Lent.{placed}
-use Rattle.runs.proofs.Lent.{placed-more, length-placed, placed-set, first-put}
+use Rattle.runs.proofs.Lent.{placed-none, placed-more, length-placed, placed-set, first-put}
 use Rattle.lines.specs.Put.{Put}
 use Rattle.lines.specs.Text.{digit, decimal}
 use Rattle.lines.proofs.Decimal.{decimal-one, decimal-more, decimal-longer, decimal-some}
@@ -49,6 +49,10 @@ then {d} {e} {f} {at} {a} {b} {p} {q} x y =
       past = omega (arith, y .past, x .past, length-append p q);
       inside = omega (arith, y .inside);
     }
+
+-- no text at all
+pub put-none : (d : List ℕ) (at : ℕ) → at ≤ length d → Put d at [] d at
+put-none d at h = record { there = placed-none d at; past = omega arith; inside = h }
 
 -- the same text by another name
 pub named : {d e : List ℕ} {at a : ℕ} {p q : List ℕ} → p ≡ q → Put d at p e a → Put d at q e a

@@ -1,29 +1,32 @@
 -- Past the entries of a listing the writing stands at the same list's next point, at the next cut or at the end, and each time the text to come is the same.
-use Prim.Native.Nat.{ℕ, suc, _+_, _-_, _*_, _≤_, _<_}
+use Prim.Native.Nat.{ℕ, suc, _+_, _-_, _*_, _/_, _≤_, _<_, min}
 use mathlib.Core.Path.{_≡_, refl, sym, ap, subst, _∙_}
 use mathlib.Core.Bool.{true}
 use mathlib.Core.List.{List, [], _++_}
 use native.Mathlib.Numerals.{add-one}
 use native.Mathlib.Omega.{arith}
 use lib.IntN.{pos}
-use lib.ListN.{length, drop, getD, length-drop}
+use lib.ListN.{length, take, drop, getD, length-take, length-drop}
+use lib.Seq.{length-sets}
 use Rattle.layout.specs.Parts.{binsIn, raysIn}
 use Rattle.layout.specs.Good.{GoodCut}
 use Rattle.layout.specs.Verdict.{noCut}
 use Rattle.layout.specs.declared.Cut.{Cut}
-use Rattle.stretches.specs.Stretch.{Entry, perEntry}
-use Rattle.stretches.specs.Call.{rightPoint}
+use Rattle.stretches.specs.Stretch.{Entry, perEntry, wordsOf}
+use Rattle.stretches.specs.Call.{fitting, answerOf, outOf, rightPoint}
 use Rattle.stretches.specs.declared.Listing.{Listing}
 use Rattle.cuts.specs.After.{cutAfter}
 use Rattle.cuts.specs.Bins.{stretchesIn}
 use Rattle.lines.specs.Text.{entryLines}
+use Rattle.lines.specs.Words.{entriesIn}
+use Rattle.lines.proofs.Words.{held}
 use Rattle.listing.specs.Listing.{threshold, headOf, houseList}
-use Rattle.listing.specs.Progress.{cutsIn, listOf, later, turnText, textFrom, On, Listed, Sound, Reaches}
+use Rattle.listing.specs.Progress.{cutsIn, listOf, textAt, turnText, textFrom, On, Listed, Sound, Reaches}
 use Rattle.listing.specs.declared.Turn.{Turn}
-use Rattle.listing.specs.declared.Progress.the-variants.{Head, Fill, End}
+use Rattle.listing.specs.declared.Progress.the-variants.{Head, Fill, Show, End}
 use Rattle.listing.proofs.AllCuts.{good-in, few-in, next-in}
-use Rattle.listing.proofs.Portion.{entries-few, entries-some, first-point, count-is, rest-is, rest-right, rest-none, rest-some}
-use Rattle.listing.proofs.Turning.{later-end, later-next}
+use Rattle.listing.proofs.Portion.{entries-few, entries-some, first-point, count-is, take-count, rest-is, rest-right, rest-none, rest-some}
+use Rattle.listing.proofs.Turning.{no-cut, one-cut}
 
 pub good-on : (s : List ℕ) (t : Turn) → On s t → GoodCut s (t .cut)
 good-on s t o = subst (GoodCut s) (sym (o .is)) (good-in s (t .number) (o .within))
@@ -87,7 +90,7 @@ module _ (s : List ℕ) (t : Turn) (l : Listing) (x : Listed s t l) where
       let size = ap length rest ∙ length-drop (l .count) (listOf s t) in
       let sum : t .total + l .count + length (houseList s c (l .ray) (l .bin)) ≡ t .total + length (listOf s t) = omega (arith, count-few) in
       record {
-        comes = λ i. entryLines (rest i) ++ later s (t .number) (sum i);
+        comes = λ i. entryLines (rest i) ++ textAt s (suc (t .number)) (sum i);
         sound = record {
           within = o .within;
           all = o .all;
@@ -99,16 +102,16 @@ module _ (s : List ℕ) (t : Turn) (l : Listing) (x : Listed s t l) where
       }
 
   -- where the list is at its end, what comes past it
-  at-end : raysIn s c ≤ l .ray → turnText s t (l .count) ≡ later s (t .number) (t .total + l .count)
+  at-end : raysIn s c ≤ l .ray → turnText s t (l .count) ≡ textAt s (suc (t .number)) (t .total + l .count)
   unfolding turnText entryLines
   at-end h =
       let none = left-none h in
       let sum : t .total + length (listOf s t) ≡ t .total + l .count = omega (arith, count-few, ap length none, length-drop (l .count) (listOf s t)) in
-      λ i. entryLines (none i) ++ later s (t .number) (sum i)
+      λ i. entryLines (none i) ++ textAt s (suc (t .number)) (sum i)
 
   pub to-end : raysIn s c ≤ l .ray → t .cuts ≤ t .number + 1 → (ws : List ℕ) → Reaches s ws (turnText s t (l .count)) (End (t .total + l .count))
   unfolding textFrom Sound
-  to-end h last ws = record { comes = sym (at-end h ∙ later-end s (t .number) (t .total + l .count) (omega (arith, x .on .all))); sound = tt }
+  to-end h last ws = record { comes = sym (at-end h ∙ no-cut s (suc (t .number)) (t .total + l .count) (omega (arith, x .on .all))); sound = tt }
 
   pub to-head : raysIn s c ≤ l .ray → t .number + 1 < t .cuts → (d : Cut) → d ≡ cutAfter s c → (ws : List ℕ)
       → Reaches s ws (turnText s t (l .count)) (Head (record { number = t .number + 1; cuts = t .cuts; cut = d; ray = 0; bin = 0; total = t .total + l .count }))
@@ -121,6 +124,30 @@ module _ (s : List ℕ) (t : Turn) (l : Listing) (x : Listed s t l) where
       let L : List Entry = houseList s d 0 0 in
       let n : ℕ = t .total + l .count in
       record {
-        comes = sym (at-end h ∙ later-next s (t .number) n lt d is ∙ (λ i. headOf s (one i) d ++ (entryLines L ++ later s (one i) (n + length L))));
+        comes = sym (at-end h ∙ one-cut s (suc (t .number)) n lt d is ∙ (λ i. headOf s (one i) d ++ (entryLines L ++ textAt s (suc (one i)) (n + length L))));
         sound = on-first s (t .number + 1) n (t .cuts) d (omega (arith, o .all)) (o .all) (rw (← one) is) (let few = o .few in omega (arith, count-few));
       }
+
+-- ---- a listing, and the words that it leaves
+pub to-show : (s : List ℕ) (t : Turn) (ws : List ℕ) (l : Listing) (w : List ℕ) → On s t → perEntry ≤ length ws
+    → l ≡ answerOf (raysIn s (t .cut)) (length ws) (listOf s t) → w ≡ outOf ws (listOf s t) → Reaches s w (turnText s t 0) (Show t l 0)
+unfolding textFrom Sound
+to-show s t ws l w o one a e =
+    let L : List Entry = listOf s t in
+    let x : Listed s t l = record { on = o; room = length ws; for-one = one; answer = a } in
+    let size : length w ≡ length ws = ap length e ∙ out-length ws L in
+    let count : l .count ≡ min (length ws / perEntry) (length L) = ap (λ (z : Listing). z .count) a ∙ count-is (raysIn s (t .cut)) (length ws) L in
+    let fits : l .count ≡ length (fitting (length ws) L) = count ∙ sym (length-take (length ws / perEntry) L) in
+    let same : fitting (length ws) L ≡ take (l .count) L = take-count (raysIn s (t .cut)) (length ws) L ∙ ap (λ (z : Listing). take (z .count) L) (sym a) in
+    record {
+      comes = refl;
+      sound = record {
+        listed = x;
+        inside = omega arith;
+        holds = (λ i. entriesIn (e i) 0 (fits i)) ∙ held ws L ∙ same;
+        shown = count-some s t l x;
+      };
+    }
+  where
+    out-length : (ws : List ℕ) (L : List Entry) → length (outOf ws L) ≡ length ws
+    out-length ws L = unfold outOf in length-sets ws 0 (wordsOf (fitting (length ws) L))

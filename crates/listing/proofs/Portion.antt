@@ -8,6 +8,7 @@ use native.Mathlib.Omega.{arith}
 use borrow.Author.Tests.{lt-ltb, le-ltb, eqb-true}
 use lib.Dec.{leb, ltb, eqb}
 use lib.ListN.{length, take, drop, length-take, length-drop, drop-of-length-le}
+use lib.Seq.{take-all}
 use lib.IntN.{ℤ}
 use Rattle.runs.specs.Run.{levels}
 use Rattle.runs.proofs.Bins.{either}
@@ -89,6 +90,14 @@ module _ (nr room : ℕ) (L : List Entry) where
       go n l =
           either n (length l) (λ h. let e : n ≡ min n (length l) = omega arith in ap (λ (k : ℕ). drop k l) e)
           (λ h. drop-of-length-le l {i = n} (omega arith) ∙ sym (drop-of-length-le l {i = min n (length l)} (omega arith)))
+
+  pub take-count : take (room / perEntry) L ≡ take (answerOf nr room L .count) L
+  take-count = rw count-is (go (room / perEntry) L)
+    where
+      go : (n : ℕ) (l : List Entry) → take n l ≡ take (min n (length l)) l
+      go n l =
+          either n (length l) (λ h. let e : n ≡ min n (length l) = omega arith in ap (λ (k : ℕ). take k l) e)
+          (λ h. take-all n l (omega arith) ∙ sym (take-all (min n (length l)) l (omega arith)))
 
   before-last : answerOf nr room L .ray < nr → 0 < length (drop (room / perEntry) L)
   unfolding answerOf

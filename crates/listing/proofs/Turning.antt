@@ -14,37 +14,37 @@ use Rattle.stretches.specs.declared.Listing.{Listing}
 use Rattle.lines.specs.Text.{entryLines, endLine}
 use Rattle.lines.proofs.Lines.{lines-append}
 use Rattle.listing.specs.Listing.{threshold, headOf, houseList, cutLines, entryCount}
-use Rattle.listing.specs.Progress.{cutsIn, listOf, later, turnText}
+use Rattle.listing.specs.Progress.{cutsIn, listOf, textAt, turnText}
 use Rattle.listing.specs.declared.Turn.{Turn}
 
 -- past the last cut
-pub later-end : (s : List ℕ) (i n : ℕ) → length (cutsIn s) ≤ suc i → later s i n ≡ endLine n
-unfolding later cutLines entryCount
-later-end s i n h =
+pub no-cut : (s : List ℕ) (i n : ℕ) → length (cutsIn s) ≤ i → textAt s i n ≡ endLine n
+unfolding textAt cutLines entryCount
+no-cut s i n h =
     let sum : n + 0 ≡ n = omega arith in
-    let none : drop (suc i) (cutsIn s) ≡ [] = drop-of-length-le (cutsIn s) h in
+    let none : drop i (cutsIn s) ≡ [] = drop-of-length-le (cutsIn s) h in
     rw (none, sum)
 
--- past a cut that another follows: that one, and what comes past it
-pub later-next : (s : List ℕ) (i n : ℕ) → suc i < length (cutsIn s) → (c : Cut) → c ≡ getD (cutsIn s) (suc i) noCut
-    → later s i n ≡ headOf s (suc i) c ++ (entryLines (houseList s c 0 0) ++ later s (suc i) (n + length (houseList s c 0 0)))
-unfolding later cutLines entryCount
-later-next s i n h c e =
-    let first : drop (suc i) (cutsIn s) ≡ c ∷ drop (suc (suc i)) (cutsIn s) = drop-cons (cutsIn s) (suc i) noCut h ∙ ap (λ (x : Cut). x ∷ drop (suc (suc i)) (cutsIn s)) (sym e) in
-    let rest : List Cut = drop (suc (suc i)) (cutsIn s) in
+-- a cut, and what comes past it
+pub one-cut : (s : List ℕ) (i n : ℕ) → i < length (cutsIn s) → (c : Cut) → c ≡ getD (cutsIn s) i noCut
+    → textAt s i n ≡ headOf s i c ++ (entryLines (houseList s c 0 0) ++ textAt s (suc i) (n + length (houseList s c 0 0)))
+unfolding textAt cutLines entryCount
+one-cut s i n h c e =
+    let rest : List Cut = drop (suc i) (cutsIn s) in
+    let first : drop i (cutsIn s) ≡ c ∷ rest = drop-cons (cutsIn s) i noCut h ∙ ap (λ (x : Cut). x ∷ rest) (sym e) in
     let L : List Entry = houseList s c 0 0 in
     let sum : n + (length L + entryCount s rest) ≡ n + length L + entryCount s rest = omega arith in
     rw first
-    (append-assoc (headOf s (suc i) c) (entryLines L ++ cutLines s (suc (suc i)) rest) (endLine (n + (length L + entryCount s rest)))
-    ∙ ap (λ (l : List ℕ). headOf s (suc i) c ++ l) (append-assoc (entryLines L) (cutLines s (suc (suc i)) rest) (endLine (n + (length L + entryCount s rest))))
-    ∙ ap (λ (m : ℕ). headOf s (suc i) c ++ (entryLines L ++ (cutLines s (suc (suc i)) rest ++ endLine m))) sum)
+    (append-assoc (headOf s i c) (entryLines L ++ cutLines s (suc i) rest) (endLine (n + (length L + entryCount s rest)))
+    ∙ ap (λ (l : List ℕ). headOf s i c ++ l) (append-assoc (entryLines L) (cutLines s (suc i) rest) (endLine (n + (length L + entryCount s rest))))
+    ∙ ap (λ (m : ℕ). headOf s i c ++ (entryLines L ++ (cutLines s (suc i) rest ++ endLine m))) sum)
 
 -- n more lines of a turn's list
 pub turn-more : (s : List ℕ) (t : Turn) (k n : ℕ) → turnText s t k ≡ entryLines (take n (drop k (listOf s t))) ++ turnText s t (k + n)
 unfolding turnText
 turn-more s t k n =
     let L : List Entry = listOf s t in
-    let rest : List ℕ = later s (t .number) (t .total + length L) in
+    let rest : List ℕ = textAt s (suc (t .number)) (t .total + length L) in
     ap (λ (l : List Entry). entryLines l ++ rest) (sym (split n (drop k L)) ∙ ap (λ (l : List Entry). take n (drop k L) ++ l) (drop-drop n k L))
     ∙ ap (λ (l : List ℕ). l ++ rest) (lines-append (take n (drop k L)) (drop (k + n) L))
     ∙ append-assoc (entryLines (take n (drop k L))) (entryLines (drop (k + n) L)) rest

@@ -34,13 +34,13 @@ cutsIn s = cutsBy (verdict s)
 abbrev pub listOf : List ℕ → Turn → List Entry
 listOf s t = houseList s (t .cut) (t .ray) (t .bin)
 
--- past cut i, with n entries before: the later cuts and the last line
-unfoldable pub later : List ℕ → ℕ → ℕ → List ℕ
-later s i n = cutLines s (suc i) (drop (suc i) (cutsIn s)) ++ endLine (n + entryCount s (drop (suc i) (cutsIn s)))
+-- from cut i on, with n entries before: its lines, those of the later cuts, and the last line
+unfoldable pub textAt : List ℕ → ℕ → ℕ → List ℕ
+textAt s i n = cutLines s i (drop i (cutsIn s)) ++ endLine (n + entryCount s (drop i (cutsIn s)))
 
 -- a turn's list less the first k entries, and what comes past its cut
 unfoldable pub turnText : List ℕ → Turn → ℕ → List ℕ
-turnText s t k = entryLines (drop k (listOf s t)) ++ later s (t .number) (t .total + length (listOf s t))
+turnText s t k = entryLines (drop k (listOf s t)) ++ textAt s (suc (t .number)) (t .total + length (listOf s t))
 
 -- the text still to come
 unfoldable pub textFrom : List ℕ → Progress → List ℕ
@@ -115,11 +115,16 @@ pub record Goes (s ws before : List ℕ) (p : Progress) (at : ℕ) (after : List
   pub sound : Sound s ws (r .next)
   pub falls : finished p ≡ false → stepsLeft s (r .next) < stepsLeft s p
 
--- a page from p to r: the first of what was to come, at the front of the lent text; an octet at least, where anything is to come
+-- a page from p to r: its octets are the first of what was to come, and stand at the front of the lent text
 pub record Paged (s ws before : List ℕ) (p : Progress) (after : List ℕ) (r : Written) : Type 0 where
-  pub inside : r .len ≤ length (textFrom s p)
-  pub holds : after ≡ front (take (r .len) (textFrom s p)) before
-  pub comes : textFrom s (r .next) ≡ drop (r .len) (textFrom s p)
-  pub sound : Sound s ws (r .next)
-  pub some : finished p ≡ false → 0 < r .len
+  pub octets : List ℕ
+  pub size : r .len ≡ length octets
   pub room : r .len ≤ length before
+  pub holds : after ≡ front octets before
+  pub comes : textFrom s p ≡ octets ++ textFrom s (r .next)
+  pub sound : Sound s ws (r .next)
+
+-- pages from p on, each from where the one before left off, up to the last: their octets, joined
+pub data Pages (s : List ℕ) : Progress → List ℕ → Type 0 where
+  none : Pages s Finished []
+  more : {p : Progress} (octets : List ℕ) (q : Progress) (rest : List ℕ) → textFrom s p ≡ octets ++ textFrom s q → Pages s q rest → Pages s p (octets ++ rest)

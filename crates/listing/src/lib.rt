@@ -8,8 +8,9 @@ use layout::Walked;
 use stretches::Listing;
 use values::Product;
 ghost use mathlib.Core.Path.{_≡_};
+ghost use mathlib.Core.Bool.{false};
 ghost use mathlib.Core.List.{List};
-ghost use Prim.Native.Nat.{ℕ, _+_, _≤_};
+ghost use Prim.Native.Nat.{ℕ, _+_, _≤_, _<_, min};
 ghost use lib.ListN.{length};
 ghost use Rattle.layout.specs.Refusal.{numberOf, placeOf};
 ghost use Rattle.stretches.specs.Stretch.{perEntry};
@@ -105,7 +106,7 @@ fn place_of(refusal: FileRefusal) -> usize
 }
 
 fn least(a: usize, b: usize) -> usize
-    ensures { λ r. ⌜ (r ≤ a) × (r ≤ b) ⌝ }
+    ensures { λ r. ⌜ r ≡ min a b ⌝ }
 {
     if a < b { a } else { b }
 }
@@ -270,6 +271,7 @@ pub fn page(file: &[u8], p: Progress, words: &mut [u32], text: &mut [u8]) -> Wri
     requires { ⌜ Sound (now file) (now words) p ⌝ }
     requires { ⌜ (perEntry ≤ length (now words)) × (20992 ≤ length (now text)) ⌝ }
     ensures { λ r. ⌜ Paged (now (file .entry)) (now (words .exit)) (now (text .entry)) p (now (text .exit)) r ⌝ }
+    ensures { λ r. ⌜ (finished p ≡ false → 0 < r .len) ⌝ }
 {
     let mut next = p;
     let mut at: usize = 0;

@@ -1,3 +1,5 @@
+use mathlib.Core.Path.{refl}
+use Rattle.listing.proofs.Moving.{good-on, to-show}
 use borrow.Author.Needs.{needs}
 use Rattle.listing.proofs.fill.Statement.{statement}
 use Rattle.listing.proofs.fill.Tie as tie
@@ -7,7 +9,7 @@ use Rattle.cuts.proofs.list_into.Reads as list-into-reads
 
 -- src/lib.rt:198:9
 list-into-requires : tie.Need-list-into-requires
-list-into-requires c κs = ?
+list-into-requires c κs = let s = c .before .before .before .before in (good-on (s .args .file .now) (s .args .t) (s .pre .0), s .pre .0 .point)
 
 -- src/lib.rt:192:1
 same-length : tie.Need-same-length
@@ -15,7 +17,9 @@ same-length c = search needs
 
 -- src/lib.rt:192:1
 returns : tie.Need-returns
-returns c = ?
+returns c = let s = c .before .before .before .before .before .before .before in
+    let l = c .before .before .list-into in
+    (to-show (s .args .file .now) (s .args .t) (s .args .words .now) (l .result) (l .last .1 .1 .1 .1 .1 .0) (s .pre .0) (s .pre .1) (l .ensures .0) (l .ensures .1), refl)
 
 pub fill-spec : {M : Type 1} → statement M
 fill-spec = tie.close (tie.spec list-into-requires same-length returns)

@@ -1,3 +1,7 @@
+use mathlib.Core.Path.{sym, _∙_}
+use native.Mathlib.Omega.{arith}
+use Rattle.listing.specs.Progress.{Sound}
+use Rattle.listing.proofs.Starting.{too-long, refused-first, head-first}
 use borrow.Author.Needs.{needs}
 use Rattle.listing.proofs.start.Statement.{statement}
 use Rattle.listing.proofs.start.Tie as tie
@@ -7,7 +11,8 @@ use Rattle.layout.proofs.walk.Reads as walk-reads
 
 -- src/lib.rt:119:9
 returns : tie.Need-returns
-returns c = ?
+unfolding Sound
+returns c = (too-long (c .before .before .args .file .now) (c .if1 .taken), λ ws. tt)
 
 -- src/lib.rt:121:11
 walk-requires : tie.Need-walk-requires
@@ -23,11 +28,12 @@ enum-known-refusal c = search needs
 
 -- src/lib.rt:114:1
 returns-2 : tie.Need-returns-2
-returns-2 c = ?
+returns-2 c = head-first (c .before .before .before .before .before .before .before .args .file .now) (c .before .before .f .given .0 .0) (omega arith) (sym (c .before .before .before .before .walk .ensures) ∙ c .before .before .f .given .1)
 
 -- src/lib.rt:114:1
 returns-3 : tie.Need-returns-3
-returns-3 c = ?
+unfolding Sound
+returns-3 c = (refused-first (c .before .before .before .before .before .before .args .file .now) (c .before .refusal .given .0 .0) (omega arith) (sym (c .before .before .before .walk .ensures) ∙ c .before .refusal .given .1), λ ws. tt)
 
 pub start-spec : {M : Type 1} → statement M
 start-spec =

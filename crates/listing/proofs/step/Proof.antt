@@ -1,4 +1,7 @@
+use native.Mathlib.Omega.{arith}
 use borrow.Author.Needs.{needs}
+use Rattle.listing.specs.Progress.{Sound}
+use Rattle.listing.proofs.Going.{goes-refused, goes-end, goes-head, goes-fill, goes-nowhere}
 use Rattle.listing.proofs.step.Statement.{statement}
 use Rattle.listing.proofs.step.Tie as tie
 use Rattle.listing.proofs.step.Reads as reads
@@ -41,7 +44,8 @@ enum-known-p-3 c = search needs
 
 -- src/lib.rt:250:17
 fill-requires : tie.Need-fill-requires
-fill-requires c κs = ?
+unfolding Sound
+fill-requires c κs = let s = c .before .before .before .before .before .before .before in (rw (c .before .before .p3 .given .1) at (s .pre .0), s .pre .1 .0)
 
 -- src/lib.rt:253:24
 enum-known-p-4 : tie.Need-enum-known-p-4
@@ -49,7 +53,8 @@ enum-known-p-4 c = search needs
 
 -- src/lib.rt:253:40
 show-requires : tie.Need-show-requires
-show-requires c κs = ?
+unfolding Sound
+show-requires c κs = let s = c .before .before .before .before .before .before .before .before in (rw (c .before .before .before .p4 .given .1) at (s .pre .0), s .pre .1 .1)
 
 -- src/lib.rt:254:23
 enum-known-p-5 : tie.Need-enum-known-p-5
@@ -69,7 +74,9 @@ same-length c = search needs
 
 -- src/lib.rt:229:1
 returns : tie.Need-returns
-returns c = ?
+returns c = let s = c .before .before .before .before .before .before .before .before .before .before .before .before in
+    goes-refused (s .args .file .now) (s .args .words .now) (s .args .text .now) (c .before .before .put-refused .last .0) (s .args .p) (s .args .at) (c .before .before .put-refused .result) (c .before .before .before .before .number-of .result)
+    (c .before .before .before .place-of .result) (c .before .before .before .before .before .before .before .p .given .0 .0) (c .before .before .before .before .before .before .before .p .given .1) (c .before .before .before .before .number-of .ensures) (c .before .before .before .place-of .ensures) (c .before .before .put-refused .ensures)
 
 -- src/lib.rt:229:1
 same-length-2 : tie.Need-same-length-2
@@ -77,7 +84,9 @@ same-length-2 c = search needs
 
 -- src/lib.rt:229:1
 returns-2 : tie.Need-returns-2
-returns-2 c = ?
+returns-2 c = let s = c .before .before .before .before .before .before .before .before .before .before in
+    goes-head (s .args .file .now) (s .args .words .now) (s .args .text .now) (c .before .before .put-first-line .last .1 .1 .0) (s .args .p) (s .args .at) (c .before .before .put-first-line .result) (c .before .before .before .before .before .p2 .given .0 .0)
+    (c .before .before .before .before .before .p2 .given .1) (s .pre .0) (c .before .before .put-first-line .ensures)
 
 -- src/lib.rt:229:1
 same-length-3 : tie.Need-same-length-3
@@ -85,7 +94,9 @@ same-length-3 c = search needs
 
 -- src/lib.rt:229:1
 returns-3 : tie.Need-returns-3
-returns-3 c = ?
+returns-3 c = let s = c .before .before .before .before .before .before .before .before .before .before in
+    goes-fill (s .args .file .now) (c .before .before .fill .last .1 .1 .0) (s .args .text .now) (s .args .p) (s .args .at) (c .before .before .before .before .before .p3 .given .0 .0) (c .before .before .fill .result) (c .before .before .before .before .before .p3 .given .1)
+    (c .before .before .fill .ensures .0) (c .before .before .fill .ensures .1) (omega (arith, s .pre .1 .1))
 
 -- src/lib.rt:229:1
 same-length-4 : tie.Need-same-length-4
@@ -97,7 +108,7 @@ same-length-5 c = search needs
 
 -- src/lib.rt:229:1
 returns-4 : tie.Need-returns-4
-returns-4 c = ?
+returns-4 c = rw (c .before .before .before .before .before .before .p4 .given .1) (c .before .before .show .ensures)
 
 -- src/lib.rt:229:1
 same-length-6 : tie.Need-same-length-6
@@ -105,11 +116,14 @@ same-length-6 c = search needs
 
 -- src/lib.rt:229:1
 returns-5 : tie.Need-returns-5
-returns-5 c = ?
+returns-5 c = let s = c .before .before .before .before .before .before .before .before .before .before in
+    goes-end (s .args .file .now) (s .args .words .now) (s .args .text .now) (c .before .before .put-end .last .0) (s .args .p) (s .args .at) (c .before .before .put-end .result) (c .before .before .before .before .before .p5 .given .0 .0)
+    (c .before .before .before .before .before .p5 .given .1) (c .before .before .put-end .ensures)
 
 -- src/lib.rt:229:1
 returns-6 : tie.Need-returns-6
-returns-6 c = ?
+returns-6 c = let s = c .before .before .before .before .before in
+    goes-nowhere (s .args .file .now) (s .args .words .now) (s .args .text .now) (s .args .p) (s .args .at) (c .enum-told .given .1) (omega (arith, s .pre .1 .1))
 
 pub step-spec : {M : Type 1} → statement M
 step-spec =
