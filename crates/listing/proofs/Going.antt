@@ -83,7 +83,7 @@ part (suc k) n (suc m) [] h = refl
 part (suc k) n (suc m) (e ∷ L) h = part k n m L (omega arith)
 
 module _ (s ws d e : List ℕ) (at to : ℕ) (t : Turn) (l : Listing) (k n : ℕ) (x : Held s ws t l k) (fits : k + n ≤ l .count)
-  (put : Put d at (entryLines (entriesIn ws k n)) e to) (some : 0 < n) where
+    (put : Put d at (entryLines (entriesIn ws k n)) e to) (some : 0 < n) where
   L : List Entry
   L = listOf s t
 

@@ -52,12 +52,21 @@ text-none s Finished h = refl
 pub no-page : (s ws d : List ℕ) (p : Progress) → Sound s ws p → Paged s ws d p d (record { len = 0; next = p })
 no-page s ws d p o = record { octets = []; size = refl; room = omega arith; holds = refl; comes = refl; sound = o }
 
+pub page-length : (s ws d e : List ℕ) (p : Progress) (r : Written) → Paged s ws d p e r → length e ≡ length d
+page-length s ws d e p r x = ap length (x .holds) ∙ length-front (x .octets) d (omega (arith, x .size, x .room))
+
+-- a page that ends because nothing is to come any more has an octet, where anything was to come
+pub page-some : (s ws d e : List ℕ) (p : Progress) (r : Written) → Paged s ws d p e r → finished (r .next) ≡ true → finished p ≡ false → 0 < r .len
+page-some s ws d e p r x last first =
+    let T : List ℕ = textFrom s (r .next) in
+    omega (arith, text-some s p first, ap length (x .comes) ∙ length-append (x .octets) T, ap length (text-none s (r .next) last), x .size)
+
 pub page-more : (s ws w d e f : List ℕ) (p q : Progress) (at : ℕ) (r : Stepped)
     → Paged s ws d p e (record { len = at; next = q }) → Goes s w e q at f r → Paged s w d p f (record { len = r .at; next = r .next })
 page-more s ws w d e f p q at r x y =
     let P : List ℕ = x .octets in
     let put = y .put in
-    let same : length e ≡ length d = ap length (x .holds) ∙ length-front P d (omega (arith, x .size, x .room)) in
+    let same = page-length s ws d e p _ x in
     record {
       octets = P ++ y .piece;
       size = omega (arith, put .past, x .size, length-append P (y .piece));

@@ -1,21 +1,16 @@
+-- `fill` meets its contract: the words hold the entries that were listed.
 use mathlib.Core.Path.{refl}
 use Rattle.listing.proofs.Moving.{good-on, to-show}
 use borrow.Author.Needs.{needs}
 use Rattle.listing.proofs.fill.Statement.{statement}
 use Rattle.listing.proofs.fill.Tie as tie
-use Rattle.listing.proofs.fill.Reads as reads
-use Rattle.listing.proofs.fill.Lts as lts
-use Rattle.cuts.proofs.list_into.Reads as list-into-reads
 
--- src/lib.rt:198:9
 list-into-requires : tie.Need-list-into-requires
 list-into-requires c κs = let s = c .before .before .before .before in (good-on (s .args .file .now) (s .args .t) (s .pre .0), s .pre .0 .point)
 
--- src/lib.rt:192:1
 same-length : tie.Need-same-length
 same-length c = search needs
 
--- src/lib.rt:192:1
 returns : tie.Need-returns
 returns c = let s = c .before .before .before .before .before .before .before in
     let l = c .before .before .list-into in
