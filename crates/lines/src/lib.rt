@@ -1,0 +1,136 @@
+// The text of the stretch list, line by line: document 01, "The lister". specs/Text.antt has each line as octets; each function here puts one at a
+// place of lent octets and answers the place past it. Below it stand `runs` (what stands at a place) and `stretches` (entries as words); above it
+// `listing`, the whole text of a file.
+ghost use mathlib.Core.Path.{_≡_};
+ghost use mathlib.Core.List.{_++_};
+ghost use Prim.Native.Nat.{_+_, _*_, _≤_};
+ghost use lib.ListN.{length};
+ghost use Rattle.stretches.specs.Stretch.{perEntry};
+ghost use Rattle.lines.specs.Put.{Put};
+ghost use Rattle.lines.specs.Text.{decimal, kindWord, newline, entryLine, entryLines, headLine, refusedLine, endLine};
+ghost use Rattle.lines.specs.Words.{entryIn, entriesIn};
+
+fn wide(x: u32) -> usize
+    ensures { λ r. ⌜ r ≡ x ⌝ }
+{
+    x as usize
+}
+
+// Octets as they are.
+fn put_octets(out: &mut [u8], at: usize, s: &[u8]) -> usize
+    requires { ⌜ at + length (now s) ≤ length (now out) ⌝ }
+    ensures { λ r. ⌜ Put (now (out .entry)) at (now (s .entry)) (now (out .exit)) r ⌝ }
+{
+    let mut i: usize = 0;
+    while i < s.len() {
+        out[at + i] = s[i];
+        i += 1;
+    }
+    at + i
+}
+
+// A number in decimal, the digits before the last first.
+fn put_decimal(out: &mut [u8], at: usize, n: usize) -> usize
+    requires { ⌜ at + length (decimal n) ≤ length (now out) ⌝ }
+    ensures { λ r. ⌜ Put (now (out .entry)) at (decimal n) (now (out .exit)) r ⌝ }
+{
+    if n < 10 {
+        out[at] = 48 + n as u8;
+        return at + 1;
+    }
+    let last = put_decimal(out, at, n / 10);
+    out[last] = 48 + (n % 10) as u8;
+    last + 1
+}
+
+// A number, and what stands before it.
+fn put_named(out: &mut [u8], at: usize, name: &[u8], n: usize) -> usize
+    requires { ⌜ at + length (now name) + 20 ≤ length (now out) ⌝ }
+    ensures { λ r. ⌜ Put (now (out .entry)) at (now (name .entry) ++ decimal n) (now (out .exit)) r ⌝ }
+    ensures { λ r. ⌜ r ≤ at + length (now (name .entry)) + 20 ⌝ }
+{
+    let a = put_octets(out, at, name);
+    put_decimal(out, a, n)
+}
+
+// The word of a kind, and the end of its line.
+fn put_kind(out: &mut [u8], at: usize, kind: u32) -> usize
+    requires { ⌜ at + 20 ≤ length (now out) ⌝ }
+    ensures { λ r. ⌜ Put (now (out .entry)) at (kindWord kind ++ newline) (now (out .exit)) r ⌝ }
+    ensures { λ r. ⌜ r ≤ at + 20 ⌝ }
+{
+    match kind {
+        0 => put_octets(out, at, b" missing\n"),
+        1 => put_octets(out, at, b" under\n"),
+        _ => put_octets(out, at, b" over\n"),
+    }
+}
+
+// The line of entry i of the words.
+fn put_entry(out: &mut [u8], at: usize, words: &[u32], i: usize) -> usize
+    requires { ⌜ (perEntry * i + perEntry ≤ length (now words)) × (at + 82 ≤ length (now out)) ⌝ }
+    ensures { λ r. ⌜ Put (now (out .entry)) at (entryLine (entryIn (now (words .entry)) i)) (now (out .exit)) r ⌝ }
+    ensures { λ r. ⌜ r ≤ at + 82 ⌝ }
+{
+    let k = 4 * i;
+    let a = put_named(out, at, b"", wide(words[k]));
+    let b = put_named(out, a, b" ", wide(words[k + 1]));
+    let c = put_named(out, b, b" ", wide(words[k + 2]));
+    put_kind(out, c, words[k + 3])
+}
+
+// The lines of `count` entries of the words, from entry `first` on.
+pub fn put_entries(out: &mut [u8], at: usize, words: &[u32], first: usize, count: usize) -> usize
+    requires { ⌜ (perEntry * (first + count) ≤ length (now words)) × (at + 82 * count ≤ length (now out)) ⌝ }
+    ensures { λ r. ⌜ Put (now (out .entry)) at (entryLines (entriesIn (now (words .entry)) first count)) (now (out .exit)) r ⌝ }
+{
+    let mut to = at;
+    let mut i = first;
+    let mut left = count;
+    while left != 0 {
+        to = put_entry(out, to, words, i);
+        i += 1;
+        left -= 1;
+    }
+    to
+}
+
+// The first line of a cut.
+pub fn put_head(
+    out: &mut [u8],
+    at: usize,
+    cut: usize,
+    product: usize,
+    bins: usize,
+    rays: usize,
+    t: usize,
+) -> usize
+    requires { ⌜ at + 160 ≤ length (now out) ⌝ }
+    ensures { λ r. ⌜ Put (now (out .entry)) at (headLine cut product bins rays t) (now (out .exit)) r ⌝ }
+{
+    let a = put_named(out, at, b"cut ", cut);
+    let b = put_named(out, a, b" product ", product);
+    let c = put_named(out, b, b" bins ", bins);
+    let d = put_named(out, c, b" rays ", rays);
+    let e = put_named(out, d, b" threshold ", t);
+    put_octets(out, e, b"\n")
+}
+
+// The line of a refusal.
+pub fn put_refused(out: &mut [u8], at: usize, number: usize, place: usize) -> usize
+    requires { ⌜ at + 160 ≤ length (now out) ⌝ }
+    ensures { λ r. ⌜ Put (now (out .entry)) at (refusedLine number place) (now (out .exit)) r ⌝ }
+{
+    let a = put_named(out, at, b"refused ", number);
+    let b = put_named(out, a, b" at ", place);
+    put_octets(out, b, b"\n")
+}
+
+// The last line.
+pub fn put_end(out: &mut [u8], at: usize, total: usize) -> usize
+    requires { ⌜ at + 160 ≤ length (now out) ⌝ }
+    ensures { λ r. ⌜ Put (now (out .entry)) at (endLine total) (now (out .exit)) r ⌝ }
+{
+    let a = put_named(out, at, b"end ", total);
+    put_octets(out, a, b"\n")
+}

@@ -1,0 +1,8 @@
+// The lister: document 01, "The lister". One octet more than a file may have is read, so that a longer one is seen.
+fn main() {
+    let mut file = [0u8; 65537];
+    let mut words = [0u32; 131072];
+    let mut text = [0u8; 131072];
+    let n = io::read_full(libc::STDIN_FILENO, &mut file);
+    show::show(libc::STDOUT_FILENO, &file[..n], &mut words, &mut text);
+}

@@ -1,0 +1,61 @@
+-- Before the first octet: by the length of the file and what the walk answers, the whole text is to come.
+use Prim.Native.Nat.{ℕ, _+_, _≤_, _<_}
+use mathlib.Core.Path.{_≡_, refl, sym, ap, subst, _∙_}
+use mathlib.Core.List.{List, _++_}
+use native.Mathlib.Omega.{arith}
+use borrow.Author.Tests.{lt-ltb, le-ltb}
+use lib.ListN.{length, getD}
+use Rattle.layout.specs.Refusal.{numberOf, placeOf}
+use Rattle.layout.specs.Verdict.{Verdict, accepted, refused, verdict, noCut, answerFor}
+use Rattle.layout.specs.declared.Cut.{Cut}
+use Rattle.layout.specs.declared.FileRefusal.{FileRefusal}
+use Rattle.layout.specs.declared.FileRefusal.the-variants.{FileSize}
+use Rattle.layout.specs.declared.Found.{Found}
+use Rattle.layout.specs.declared.Walked.the-variants as W
+use Rattle.lines.specs.Text.{refusedLine, endLine, entryLines}
+use Rattle.listing.specs.Listing.{headOf, houseList, cutLines, entryCount, verdictText, textOf}
+use Rattle.listing.specs.Progress.{cutsBy, cutsIn, textAt, turnText, textFrom, On, Sound}
+use Rattle.listing.specs.declared.Turn.{Turn}
+use Rattle.listing.specs.declared.Progress.the-variants.{Refused, Head}
+use Rattle.listing.proofs.AllCuts.{some-cut}
+use Rattle.listing.proofs.Moving.{on-first}
+use Rattle.listing.proofs.Turning.{one-cut}
+
+pub too-long : (s : List ℕ) → 65536 < length s → textFrom s (Refused FileSize) ≡ textOf s
+unfolding textFrom textOf
+too-long s h = simp (lt-ltb 65536 (length s) h)
+
+text-is : (s : List ℕ) → length s ≤ 65536 → textOf s ≡ verdictText s (verdict s)
+unfolding textOf
+text-is s h = simp (le-ltb 65536 (length s) h)
+
+pub refused-first : (s : List ℕ) (r : FileRefusal) → length s ≤ 65536 → answerFor 0 (verdict s) ≡ W.Rejected r → textFrom s (Refused r) ≡ textOf s
+unfolding textFrom verdictText answerFor
+refused-first s r h e = go (verdict s) e ∙ sym (text-is s h)
+  where
+    go : (v : Verdict) → answerFor 0 v ≡ W.Rejected r → refusedLine (numberOf r) (placeOf r) ≡ verdictText s v
+    go (accepted cs) e = let z : _≡_ {A = ℕ} 0 1 = cc in absurd (omega arith)
+    go (refused q) e = let same : r ≡ q = cc in ap (λ (x : FileRefusal). refusedLine (numberOf x) (placeOf x)) same
+
+from-first : (s : List ℕ) → textAt s 0 0 ≡ cutLines s 0 (cutsIn s) ++ endLine (entryCount s (cutsIn s))
+unfolding textAt
+from-first s = let sum : 0 + entryCount s (cutsIn s) ≡ entryCount s (cutsIn s) = omega arith in ap (λ (n : ℕ). cutLines s 0 (cutsIn s) ++ endLine n) sum
+
+-- the turn at the first cut
+abbrev first : Found → Turn
+first f = record { number = 0; cuts = f .cuts; cut = f .cut; ray = 0; bin = 0; total = 0 }
+
+pub head-first : (s : List ℕ) (f : Found) → length s ≤ 65536 → answerFor 0 (verdict s) ≡ W.Whole f
+    → (textFrom s (Head (first f)) ≡ textOf s) × ((ws : List ℕ) → Sound s ws (Head (first f)))
+unfolding textFrom turnText verdictText answerFor Sound
+head-first s f h e = go (verdict s) refl e
+  where
+    go : (v : Verdict) → verdict s ≡ v → answerFor 0 v ≡ W.Whole f → (textFrom s (Head (first f)) ≡ textOf s) × ((ws : List ℕ) → Sound s ws (Head (first f)))
+    go (refused r) u e = let z : _≡_ {A = ℕ} 0 1 = cc in absurd (omega arith)
+    go (accepted cs) u e =
+        let found : f ≡ record { cuts = length cs; cut = getD cs 0 noCut } = cc in
+        let all : cs ≡ cutsIn s = sym (ap cutsBy u) in
+        let some : 0 < length (cutsIn s) = omega (arith, some-cut s cs u, ap length all) in
+        let count : f .cuts ≡ length (cutsIn s) = ap (λ (x : Found). x .cuts) found ∙ ap length all in
+        let is : f .cut ≡ getD (cutsIn s) 0 noCut = ap (λ (x : Found). x .cut) found ∙ ap (λ (l : List Cut). getD l 0 noCut) all in
+        (sym (one-cut s 0 0 some (f .cut) is) ∙ from-first s ∙ (λ i. cutLines s 0 (sym all i) ++ endLine (entryCount s (sym all i))) ∙ ap (verdictText s) (sym u) ∙ sym (text-is s h), λ ws. on-first s 0 0 (f .cuts) (f .cut) some count is (omega arith))

@@ -1,0 +1,53 @@
+-- What is to come past the entries of a listing: more of the same list, the next cut, or the end.
+use Prim.Native.Nat.{ℕ, zero, suc, _+_, _-_, _*_, _≤_, _<_}
+use mathlib.Core.Path.{_≡_, refl, sym, ap, subst, _∙_}
+use mathlib.Core.List.{List, [], _∷_, _++_, append-assoc}
+use native.Mathlib.Omega.{arith}
+use lib.ListN.{length, take, drop, getD, length-drop, drop-of-length-le, take-append-drop}
+use lib.Seq.{drop-cons, drop-drop}
+use Rattle.layout.specs.Parts.{binsIn, raysIn}
+use Rattle.layout.specs.Good.{GoodCut}
+use Rattle.layout.specs.Verdict.{noCut}
+use Rattle.layout.specs.declared.Cut.{Cut}
+use Rattle.stretches.specs.Stretch.{Entry, perEntry}
+use Rattle.stretches.specs.declared.Listing.{Listing}
+use Rattle.lines.specs.Text.{entryLines, endLine}
+use Rattle.lines.proofs.Lines.{lines-append}
+use Rattle.listing.specs.Listing.{threshold, headOf, houseList, cutLines, entryCount}
+use Rattle.listing.specs.Progress.{cutsIn, listOf, textAt, turnText}
+use Rattle.listing.specs.declared.Turn.{Turn}
+
+-- past the last cut
+pub no-cut : (s : List ℕ) (i n : ℕ) → length (cutsIn s) ≤ i → textAt s i n ≡ endLine n
+unfolding textAt cutLines entryCount
+no-cut s i n h =
+    let sum : n + 0 ≡ n = omega arith in
+    let none : drop i (cutsIn s) ≡ [] = drop-of-length-le (cutsIn s) h in
+    rw (none, sum)
+
+-- a cut, and what comes past it
+pub one-cut : (s : List ℕ) (i n : ℕ) → i < length (cutsIn s) → (c : Cut) → c ≡ getD (cutsIn s) i noCut
+    → textAt s i n ≡ headOf s i c ++ (entryLines (houseList s c 0 0) ++ textAt s (suc i) (n + length (houseList s c 0 0)))
+unfolding textAt cutLines entryCount
+one-cut s i n h c e =
+    let rest : List Cut = drop (suc i) (cutsIn s) in
+    let first : drop i (cutsIn s) ≡ c ∷ rest = drop-cons (cutsIn s) i noCut h ∙ ap (λ (x : Cut). x ∷ rest) (sym e) in
+    let L : List Entry = houseList s c 0 0 in
+    let sum : n + (length L + entryCount s rest) ≡ n + length L + entryCount s rest = omega arith in
+    rw first
+    (append-assoc (headOf s i c) (entryLines L ++ cutLines s (suc i) rest) (endLine (n + (length L + entryCount s rest)))
+    ∙ ap (λ (l : List ℕ). headOf s i c ++ l) (append-assoc (entryLines L) (cutLines s (suc i) rest) (endLine (n + (length L + entryCount s rest))))
+    ∙ ap (λ (m : ℕ). headOf s i c ++ (entryLines L ++ (cutLines s (suc i) rest ++ endLine m))) sum)
+
+-- n more lines of a turn's list
+pub turn-more : (s : List ℕ) (t : Turn) (k n : ℕ) → turnText s t k ≡ entryLines (take n (drop k (listOf s t))) ++ turnText s t (k + n)
+unfolding turnText
+turn-more s t k n =
+    let L : List Entry = listOf s t in
+    let rest : List ℕ = textAt s (suc (t .number)) (t .total + length L) in
+    ap (λ (l : List Entry). entryLines l ++ rest) (sym (split n (drop k L)) ∙ ap (λ (l : List Entry). take n (drop k L) ++ l) (drop-drop n k L))
+    ∙ ap (λ (l : List ℕ). l ++ rest) (lines-append (take n (drop k L)) (drop (k + n) L))
+    ∙ append-assoc (entryLines (take n (drop k L))) (entryLines (drop (k + n) L)) rest
+  where
+    split : (m : ℕ) (l : List Entry) → take m l ++ drop m l ≡ l
+    split = take-append-drop

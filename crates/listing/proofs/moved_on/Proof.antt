@@ -1,0 +1,32 @@
+-- `moved_on` meets its contract: the next point, the next cut, or the end.
+use native.Mathlib.Omega.{arith}
+use Rattle.listing.proofs.Moving.{sum-few, to-fill, to-head, to-end}
+use borrow.Author.Needs.{needs}
+use Rattle.listing.proofs.moved_on.Statement.{statement}
+use Rattle.listing.proofs.moved_on.Tie as tie
+
+add-total : tie.Need-add-total
+add-total c = record { fits = omega (arith, sum-few (c .before .before .before .before .args .file .now) (c .before .before .before .before .args .t) (c .before .before .before .before .args .l) (c .before .before .before .before .pre)) }
+
+rays-in-requires : tie.Need-rays-in-requires
+rays-in-requires c κs = search needs
+
+returns : tie.Need-returns
+returns c = to-fill (c .before .before .before .before .before .before .before .args .file .now) (c .before .before .before .before .before .before .before .args .t) (c .before .before .before .before .before .before .before .args .l) (c .before .before .before .before .before .before .before .pre) (rw (← c .before .before .rays-in .ensures) (c .if1 .taken))
+
+add-number : tie.Need-add-number
+add-number c = search needs
+
+next-cut-requires : tie.Need-next-cut-requires
+next-cut-requires c κs = search needs
+
+returns-2 : tie.Need-returns-2
+returns-2 c = to-head (c .before .before .before .before .before .before .before .before .before .before .before .args .file .now) (c .before .before .before .before .before .before .before .before .before .before .before .args .t) (c .before .before .before .before .before .before .before .before .before .before .before .args .l) (c .before .before .before .before .before .before .before .before .before .before .before .pre) (rw (← c .before .before .before .before .before .before .rays-in .ensures) (c .before .before .before .before .if1 .left)) (c .before .if2 .taken) (c .next-cut .result) (c .next-cut .ensures)
+
+returns-3 : tie.Need-returns-3
+returns-3 c = to-end (c .before .before .before .before .before .before .before .before .before .before .args .file .now) (c .before .before .before .before .before .before .before .before .before .before .args .t) (c .before .before .before .before .before .before .before .before .before .before .args .l) (c .before .before .before .before .before .before .before .before .before .before .pre) (rw (← c .before .before .before .before .before .rays-in .ensures) (c .before .before .before .if1 .left)) (c .if2 .left)
+
+pub moved-on-spec : {M : Type 1} → statement M
+moved-on-spec =
+    tie.close
+    (tie.spec add-total rays-in-requires returns add-number next-cut-requires returns-2 returns-3)

@@ -1,0 +1,50 @@
+-- `put_first_line` meets its contract: the numbers are those of the cut.
+use mathlib.Core.Path.{_≡_, ap, _∙_}
+use Rattle.lines.specs.Text.{headLine}
+use Rattle.lines.proofs.Placing.{named}
+use Rattle.listing.specs.Listing.{threshold, productNumber, headOf}
+use borrow.Author.Needs.{needs}
+use Rattle.listing.proofs.put_first_line.Statement.{statement}
+use Rattle.listing.proofs.put_first_line.Tie as tie
+
+product-in-requires : tie.Need-product-in-requires
+product-in-requires c κs = search needs
+
+product-number-requires : tie.Need-product-number-requires
+product-number-requires c κs = search needs
+
+bins-in-requires : tie.Need-bins-in-requires
+bins-in-requires c κs = search needs
+
+rays-in-requires : tie.Need-rays-in-requires
+rays-in-requires c κs = search needs
+
+cast-put-head : tie.Need-cast-put-head
+cast-put-head c = search needs
+
+put-head-requires : tie.Need-put-head-requires
+put-head-requires c κs = search needs
+
+same-length : tie.Need-same-length
+same-length c = search needs
+
+returns : tie.Need-returns
+unfolding headOf
+returns c = let s = c .before .before .before .before .before .before .before .before .before .before .before in
+    let n = c .before .before .before .before .before .before .product-number .ensures ∙ ap productNumber (c .before .before .before .before .before .before .before .product-in .ensures) in
+    let b = c .before .before .before .before .before .bins-in .ensures in
+    let r = c .before .before .before .before .rays-in .ensures in
+    named (λ i. headLine (s .args .t .number) (n i) (b i) (r i) threshold) (c .before .before .put-head .ensures)
+
+pub put-first-line-spec : {M : Type 1} → statement M
+put-first-line-spec =
+    tie.close
+    (tie.spec
+    product-in-requires
+    product-number-requires
+    bins-in-requires
+    rays-in-requires
+    cast-put-head
+    put-head-requires
+    same-length
+    returns)

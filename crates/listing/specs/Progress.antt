@@ -1,0 +1,130 @@
+-- Where the writing of a text stands: what is still to come, and what makes a standing sound. `textFrom` is what the contracts go by.
+use Prim.Native.Nat.{ℕ, suc, _+_, _*_, _≤_, _<_}
+use mathlib.Core.Path.{_≡_}
+use mathlib.Core.Bool.{Bool, true, false}
+use mathlib.Core.List.{List, [], _++_}
+use lib.ListN.{length, take, drop, getD}
+use Rattle.layout.specs.Parts.{binsIn, raysIn}
+use Rattle.layout.specs.Refusal.{numberOf, placeOf}
+use Rattle.layout.specs.Verdict.{Verdict, accepted, refused, verdict, noCut}
+use Rattle.layout.specs.declared.Cut.{Cut}
+use Rattle.stretches.specs.Stretch.{Entry, perEntry}
+use Rattle.stretches.specs.Call.{answerOf, rightPoint}
+use Rattle.stretches.specs.declared.Listing.{Listing}
+use Rattle.runs.specs.Lent.{front}
+use Rattle.lines.specs.Put.{Put}
+use Rattle.lines.specs.Text.{entryLines, refusedLine, endLine}
+use Rattle.lines.specs.Words.{entriesIn}
+use Rattle.listing.specs.Listing.{headOf, houseList, cutLines, entryCount}
+use Rattle.listing.specs.declared.Turn.{Turn}
+use Rattle.listing.specs.declared.Progress.{Progress}
+use Rattle.listing.specs.declared.Progress.the-variants.{Refused, Head, Fill, Show, End, Finished}
+use Rattle.listing.specs.declared.Stepped.{Stepped}
+use Rattle.listing.specs.declared.Written.{Written}
+
+-- the cuts of a file
+abbrev pub cutsBy : Verdict → List Cut
+cutsBy (accepted cs) = cs
+cutsBy (refused r) = []
+
+abbrev pub cutsIn : List ℕ → List Cut
+cutsIn s = cutsBy (verdict s)
+
+-- the list that a turn is at: the stretches of its cut from its point on
+abbrev pub listOf : List ℕ → Turn → List Entry
+listOf s t = houseList s (t .cut) (t .ray) (t .bin)
+
+-- from cut i on, with n entries before: its lines, those of the later cuts, and the last line
+unfoldable pub textAt : List ℕ → ℕ → ℕ → List ℕ
+textAt s i n = cutLines s i (drop i (cutsIn s)) ++ endLine (n + entryCount s (drop i (cutsIn s)))
+
+-- a turn's list less the first k entries, and what comes past its cut
+unfoldable pub turnText : List ℕ → Turn → ℕ → List ℕ
+turnText s t k = entryLines (drop k (listOf s t)) ++ textAt s (suc (t .number)) (t .total + length (listOf s t))
+
+-- the text still to come
+unfoldable pub textFrom : List ℕ → Progress → List ℕ
+textFrom s (Refused r) = refusedLine (numberOf r) (placeOf r)
+textFrom s (Head t) = headOf s (t .number) (t .cut) ++ turnText s t 0
+textFrom s (Fill t) = turnText s t 0
+textFrom s (Show t l k) = turnText s t k
+textFrom s (End n) = endLine n
+textFrom s Finished = []
+
+abbrev pub finished : Progress → Bool
+finished (Refused r) = false
+finished (Head t) = false
+finished (Fill t) = false
+finished (Show t l k) = false
+finished (End n) = false
+finished Finished = true
+
+-- a turn at a cut of the file, at a right point with entries to come; the sum of entries stays small
+pub record On (s : List ℕ) (t : Turn) : Type 0 where
+  pub within : t .number < length (cutsIn s)
+  pub all : t .cuts ≡ length (cutsIn s)
+  pub is : t .cut ≡ getD (cutsIn s) (t .number) noCut
+  pub point : rightPoint (binsIn s (t .cut)) (raysIn s (t .cut)) (t .ray) (t .bin) ≡ true
+  pub some : 0 < length (listOf s t)
+  pub few : t .total + length (listOf s t) ≤ suc (t .number) * 2097152
+
+-- l answers for the turn's list and some room
+pub record Listed (s : List ℕ) (t : Turn) (l : Listing) : Type 0 where
+  pub on : On s t
+  pub room : ℕ
+  pub for-one : perEntry ≤ room
+  pub answer : l ≡ answerOf (raysIn s (t .cut)) room (listOf s t)
+
+-- the words hold the entries that l counts, of which k were written
+pub record Held (s ws : List ℕ) (t : Turn) (l : Listing) (k : ℕ) : Type 0 where
+  pub listed : Listed s t l
+  pub inside : perEntry * l .count ≤ length ws
+  pub holds : entriesIn ws 0 (l .count) ≡ take (l .count) (listOf s t)
+  pub shown : k < l .count
+
+unfoldable pub Sound : List ℕ → List ℕ → Progress → Type 0
+Sound s ws (Refused r) = Unit {0}
+Sound s ws (Head t) = On s t
+Sound s ws (Fill t) = On s t
+Sound s ws (Show t l k) = Held s ws t l k
+Sound s ws (End n) = Unit {0}
+Sound s ws Finished = Unit {0}
+
+-- r is sound, and the text is still to come there
+pub record Reaches (s ws text : List ℕ) (r : Progress) : Type 0 where
+  pub comes : textFrom s r ≡ text
+  pub sound : Sound s ws r
+
+-- how many steps may still come: each writes something, but for the one from Fill to Show
+abbrev pub rank : Progress → ℕ
+rank (Refused r) = 0
+rank (Head t) = 0
+rank (Fill t) = 1
+rank (Show t l k) = 0
+rank (End n) = 0
+rank Finished = 0
+
+unfoldable pub stepsLeft : List ℕ → Progress → ℕ
+stepsLeft s p = 2 * length (textFrom s p) + rank p
+
+-- a step from p to r: what it puts at a place is the beginning of what was to come
+pub record Goes (s ws before : List ℕ) (p : Progress) (at : ℕ) (after : List ℕ) (r : Stepped) : Type 0 where
+  pub piece : List ℕ
+  pub put : Put before at piece after (r .at)
+  pub comes : textFrom s p ≡ piece ++ textFrom s (r .next)
+  pub sound : Sound s ws (r .next)
+  pub falls : finished p ≡ false → stepsLeft s (r .next) < stepsLeft s p
+
+-- a page from p to r: its octets are the first of what was to come, and stand at the front of the lent text
+pub record Paged (s ws before : List ℕ) (p : Progress) (after : List ℕ) (r : Written) : Type 0 where
+  pub octets : List ℕ
+  pub size : r .len ≡ length octets
+  pub room : r .len ≤ length before
+  pub holds : after ≡ front octets before
+  pub comes : textFrom s p ≡ octets ++ textFrom s (r .next)
+  pub sound : Sound s ws (r .next)
+
+-- pages from p on, each from where the one before left off, up to the last: their octets, joined
+pub data Pages (s : List ℕ) : Progress → List ℕ → Type 0 where
+  none : Pages s Finished []
+  more : {p : Progress} (octets : List ℕ) (q : Progress) (rest : List ℕ) → textFrom s p ≡ octets ++ textFrom s q → Pages s q rest → Pages s p (octets ++ rest)

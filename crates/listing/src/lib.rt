@@ -1,0 +1,288 @@
+// The whole text of a file's list, written page by page: document 01, "The lister". specs/Listing.antt has the text as one definition, `textOf`; `start`
+// gives the standing before the first octet, and `page` writes the next octets of the text and hands the next standing on (proofs/Pages.antt: the
+// pages joined are the text). The file's checks are made once. The words of a listing are kept between pages, so that a cut is listed in few
+// portions, however small the page. Below it stand `layout`, `cuts`, `stretches` and `lines`; above it the programs.
+use layout::Cut;
+use layout::FileRefusal;
+use layout::Walked;
+use stretches::Listing;
+use values::Product;
+ghost use mathlib.Core.Path.{_≡_};
+ghost use mathlib.Core.Bool.{false};
+ghost use mathlib.Core.List.{List};
+ghost use Prim.Native.Nat.{ℕ, _+_, _≤_, _<_, min};
+ghost use lib.ListN.{length};
+ghost use Rattle.layout.specs.Refusal.{numberOf, placeOf};
+ghost use Rattle.stretches.specs.Stretch.{perEntry};
+ghost use Rattle.lines.specs.Put.{Put};
+ghost use Rattle.listing.specs.Listing.{productNumber, headOf, textOf};
+ghost use Rattle.listing.specs.Progress.{textFrom, turnText, finished, rank, On, Listed, Held, Sound, Reaches, Goes, Paged};
+
+// The house threshold, in hundredths.
+const HOUSE: i32 = 4000;
+
+// How many lines a step writes at most, and how much room it asks.
+const LINES: usize = 256;
+
+const ROOM: usize = 20992;
+
+// A cut, the point from which its entries are to come, and how many entries came before.
+pub struct Turn {
+    pub number: usize,
+    pub cuts: usize,
+    pub cut: Cut,
+    pub ray: usize,
+    pub bin: usize,
+    pub total: usize,
+}
+
+// Where the writing stands.
+pub enum Progress {
+    // the line of a refusal is all there is
+    Refused(FileRefusal),
+    // the first line of a cut
+    Head(Turn),
+    // entries, which are to be listed into the words
+    Fill(Turn),
+    // entries that the words hold, of which so many were written
+    Show(Turn, Listing, usize),
+    // the last line
+    End(usize),
+    Finished,
+}
+
+struct Stepped {
+    at: usize,
+    next: Progress,
+}
+
+// How many octets were written, and where the writing then stands.
+pub struct Written {
+    pub len: usize,
+    pub next: Progress,
+}
+
+fn product_number(p: Product) -> usize
+    ensures { λ r. ⌜ r ≡ productNumber p ⌝ }
+{
+    match p {
+        Product::Reflectivity => 1,
+        Product::Velocity => 2,
+    }
+}
+
+fn number_of(refusal: FileRefusal) -> usize
+    ensures { λ r. ⌜ r ≡ numberOf refusal ⌝ }
+{
+    match refusal {
+        FileRefusal::FileSize => 1,
+        FileRefusal::Section0 => 2,
+        FileRefusal::Frame(_) => 3,
+        FileRefusal::Length(_) => 4,
+        FileRefusal::Field(_) => 5,
+        FileRefusal::Points(_) => 6,
+        FileRefusal::Table(_) => 7,
+        FileRefusal::Bins(_) => 8,
+        FileRefusal::CutCount(_) => 9,
+        FileRefusal::BaseOfRuns(_) => 12,
+    }
+}
+
+fn place_of(refusal: FileRefusal) -> usize
+    ensures { λ r. ⌜ r ≡ placeOf refusal ⌝ }
+{
+    match refusal {
+        FileRefusal::FileSize => 0,
+        FileRefusal::Section0 => 0,
+        FileRefusal::Frame(at) => at,
+        FileRefusal::Length(at) => at,
+        FileRefusal::Field(at) => at,
+        FileRefusal::Points(at) => at,
+        FileRefusal::Table(at) => at,
+        FileRefusal::Bins(at) => at,
+        FileRefusal::CutCount(at) => at,
+        FileRefusal::BaseOfRuns(at) => at,
+    }
+}
+
+fn least(a: usize, b: usize) -> usize
+    ensures { λ r. ⌜ r ≡ min a b ⌝ }
+{
+    if a < b { a } else { b }
+}
+
+// Before the first octet.
+pub fn start(file: &[u8]) -> Progress
+    ensures { λ r. ⌜ textFrom (now (file .entry)) r ≡ textOf (now (file .entry)) ⌝ }
+    ensures { λ r. ⌜ ((ws : List ℕ) → Sound (now (file .entry)) ws r) ⌝ }
+{
+    if 65536 < file.len() {
+        return Progress::Refused(FileRefusal::FileSize);
+    }
+    match layout::walk(file, 0) {
+        Walked::Whole(f) => {
+            let cut = f.cut;
+            Progress::Head(Turn {
+                number: 0,
+                cuts: f.cuts,
+                cut,
+                ray: 0,
+                bin: 0,
+                total: 0,
+            })
+        }
+        Walked::Rejected(refusal) => Progress::Refused(refusal),
+    }
+}
+
+// Whether nothing is to come any more.
+pub fn is_finished(p: Progress) -> bool
+    ensures { λ r. ⌜ r ≡ finished p ⌝ }
+{
+    if let Progress::Finished = p {
+        true
+    } else {
+        false
+    }
+}
+
+fn put_first_line(file: &[u8], t: Turn, text: &mut [u8], at: usize) -> usize
+    requires { ⌜ at + 160 ≤ length (now text) ⌝ }
+    ensures { λ r. ⌜ Put (now (text .entry)) at (headOf (now (file .entry)) (t .number) (t .cut)) (now (text .exit)) r ⌝ }
+{
+    let cut = t.cut;
+    let product = product_number(layout::product_in(file, cut));
+    let bins = cuts::bins_in(file, cut);
+    let rays = cuts::rays_in(file, cut);
+    lines::put_head(text, at, t.number, product, bins, rays, HOUSE as usize)
+}
+
+// Past the entries of a listing: more of the same cut, the next cut, or the end.
+fn moved_on(file: &[u8], t: Turn, l: Listing) -> Progress
+    requires { ⌜ Listed (now file) t l ⌝ }
+    ensures { λ r. ⌜ ((ws : List ℕ) → Reaches (now (file .entry)) ws (turnText (now (file .entry)) t (l .count)) r) ⌝ }
+{
+    let cut = t.cut;
+    let total = t.total + l.count;
+    if l.ray < cuts::rays_in(file, cut) {
+        return Progress::Fill(Turn {
+            number: t.number,
+            cuts: t.cuts,
+            cut,
+            ray: l.ray,
+            bin: l.bin,
+            total,
+        });
+    }
+    let number = t.number + 1;
+    if number < t.cuts {
+        let cut = cuts::next_cut(file, cut);
+        return Progress::Head(Turn {
+            number,
+            cuts: t.cuts,
+            cut,
+            ray: 0,
+            bin: 0,
+            total,
+        });
+    }
+    Progress::End(total)
+}
+
+// The entries of a turn, listed into the words.
+fn fill(file: &[u8], t: Turn, words: &mut [u32]) -> Progress
+    requires { ⌜ (On (now file) t) × (perEntry ≤ length (now words)) ⌝ }
+    ensures { λ r. ⌜ Reaches (now (file .entry)) (now (words .exit)) (turnText (now (file .entry)) t 0) r ⌝ }
+    ensures { λ r. ⌜ rank r ≡ 0 ⌝ }
+{
+    let cut = t.cut;
+    let listing = cuts::list_into(file, cut, HOUSE, t.ray, t.bin, words);
+    Progress::Show(t, listing, 0)
+}
+
+// Some more lines of the entries that the words hold.
+fn show(
+    file: &[u8],
+    t: Turn,
+    l: Listing,
+    shown: usize,
+    words: &[u32],
+    text: &mut [u8],
+    at: usize,
+) -> Stepped
+    requires { ⌜ Held (now file) (now words) t l shown ⌝ }
+    requires { ⌜ at + 20992 ≤ length (now text) ⌝ }
+    ensures { λ r. ⌜ Goes (now (file .entry)) (now (words .entry)) (now (text .entry)) (Progress.Show t l shown) at (now (text .exit)) r ⌝ }
+{
+    let n = least(l.count - shown, LINES);
+    let to = lines::put_entries(text, at, words, shown, n);
+    if shown + n < l.count {
+        return Stepped {
+            at: to,
+            next: Progress::Show(t, l, shown + n),
+        };
+    }
+    let next = moved_on(file, t, l);
+    Stepped { at: to, next }
+}
+
+// One step: a line, some lines, or a listing.
+fn step(file: &[u8], p: Progress, words: &mut [u32], text: &mut [u8], at: usize) -> Stepped
+    requires { ⌜ Sound (now file) (now words) p ⌝ }
+    requires { ⌜ (perEntry ≤ length (now words)) × (at + 20992 ≤ length (now text)) ⌝ }
+    ensures { λ r. ⌜ Goes (now (file .entry)) (now (words .exit)) (now (text .entry)) p at (now (text .exit)) r ⌝ }
+{
+    match p {
+        Progress::Refused(refusal) => {
+            let to = lines::put_refused(text, at, number_of(refusal), place_of(refusal));
+            Stepped {
+                at: to,
+                next: Progress::Finished,
+            }
+        }
+        Progress::Head(t) => {
+            let to = put_first_line(file, t, text, at);
+            Stepped {
+                at: to,
+                next: Progress::Fill(t),
+            }
+        }
+        Progress::Fill(t) => {
+            let next = fill(file, t, words);
+            Stepped { at, next }
+        }
+        Progress::Show(t, l, shown) => show(file, t, l, shown, words, text, at),
+        Progress::End(total) => {
+            let to = lines::put_end(text, at, total);
+            Stepped {
+                at: to,
+                next: Progress::Finished,
+            }
+        }
+        Progress::Finished => Stepped {
+            at,
+            next: Progress::Finished,
+        },
+    }
+}
+
+// The next page of the text, at the front of `text`.
+pub fn page(file: &[u8], p: Progress, words: &mut [u32], text: &mut [u8]) -> Written
+    requires { ⌜ Sound (now file) (now words) p ⌝ }
+    requires { ⌜ (perEntry ≤ length (now words)) × (20992 ≤ length (now text)) ⌝ }
+    ensures { λ r. ⌜ Paged (now (file .entry)) (now (words .exit)) (now (text .entry)) p (now (text .exit)) r ⌝ }
+    ensures { λ r. ⌜ (finished p ≡ false → 0 < r .len) ⌝ }
+{
+    let mut next = p;
+    let mut at: usize = 0;
+    let last = text.len() - ROOM;
+    while at <= last {
+        if is_finished(next) {
+            break;
+        }
+        let s = step(file, next, words, text, at);
+        at = s.at;
+        next = s.next;
+    }
+    Written { len: at, next }
+}

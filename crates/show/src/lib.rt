@@ -1,0 +1,16 @@
+// Writes the list of a file to a descriptor, page by page: the loop that both programs have. What is written is said by `listing`; no contract speaks of
+// what a descriptor takes.
+ghost use mathlib.Core.Path.{_≡_};
+ghost use Prim.Native.Nat.{_≤_};
+ghost use lib.ListN.{length};
+
+// `words` and `text` are room for the work: a listing's words, and a page.
+pub fn show(fd: i32, file: &[u8], words: &mut [u32; 131072], text: &mut [u8; 131072]) {
+    let mut p = listing::start(file);
+    while !listing::is_finished(p) {
+        let page = listing::page(file, p, words, text);
+        let len = page.len;
+        io::write_all(fd, &text[0..len]);
+        p = page.next;
+    }
+}
