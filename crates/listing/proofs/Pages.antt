@@ -61,6 +61,10 @@ page-some s ws d e p r x last first =
     let T : List ℕ = textFrom s (r .next) in
     omega (arith, text-some s p first, ap length (x .comes) ∙ length-append (x .octets) T, ap length (text-none s (r .next) last), x .size)
 
+-- with each page less is to come
+pub page-less : (s ws d e : List ℕ) (p : Progress) (r : Written) → Paged s ws d p e r → 0 < r .len → length (textFrom s (r .next)) < length (textFrom s p)
+page-less s ws d e p r x some = omega (arith, ap length (x .comes) ∙ length-append (x .octets) (textFrom s (r .next)), x .size)
+
 pub page-more : (s ws w d e f : List ℕ) (p q : Progress) (at : ℕ) (r : Stepped)
     → Paged s ws d p e (record { len = at; next = q }) → Goes s w e q at f r → Paged s w d p f (record { len = r .at; next = r .next })
 page-more s ws w d e f p q at r x y =

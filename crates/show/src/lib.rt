@@ -1,11 +1,12 @@
 // Writes the list of a file to a descriptor, page by page: the loop that both programs have. What is written is said by `listing`; no contract speaks of
 // what a descriptor takes.
-ghost use mathlib.Core.Path.{_≡_};
 ghost use Prim.Native.Nat.{_≤_};
 ghost use lib.ListN.{length};
 
 // `words` and `text` are room for the work: a listing's words, and a page.
-pub fn show(fd: i32, file: &[u8], words: &mut [u32; 131072], text: &mut [u8; 131072]) {
+pub fn show(fd: i32, file: &[u8], words: &mut [u32], text: &mut [u8])
+    requires { ⌜ (4 ≤ length (now words)) × (20992 ≤ length (now text)) ⌝ }
+{
     let mut p = listing::start(file);
     while !listing::is_finished(p) {
         let page = listing::page(file, p, words, text);
