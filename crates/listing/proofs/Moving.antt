@@ -21,7 +21,7 @@ use Rattle.lines.specs.Text.{entryLines}
 use Rattle.lines.specs.Words.{entriesIn}
 use Rattle.lines.proofs.Words.{held}
 use Rattle.listing.specs.Listing.{headOf, houseList}
-use Rattle.listing.specs.Progress.{cutsIn, listOf, textAt, turnText, textFrom, On, Listed, Sound, Reaches}
+use Rattle.listing.specs.Progress.{cutsIn, cutBegun, listOf, textAt, turnText, textFrom, On, Listed, Sound, Reaches}
 use Rattle.listing.specs.declared.Turn.{Turn}
 use Rattle.listing.specs.declared.Progress.the-variants.{Head, Fill, Show, End}
 use Rattle.listing.proofs.AllCuts.{good-in, few-in, next-in}
@@ -33,7 +33,7 @@ good-on s t o = subst (GoodCut s) (sym (o .is)) (good-in s (t .number) (o .withi
 
 -- a turn at the beginning of cut i
 pub on-first : (s : List ℕ) (i n k : ℕ) (c : Cut) → i < length (cutsIn s) → k ≡ length (cutsIn s) → c ≡ getD (cutsIn s) i noCut → n ≤ i * 2097152
-    → On s (record { number = i; cuts = k; cut = c; ray = 0; bin = 0; total = n })
+    → On s (cutBegun i k c n)
 on-first s i n k c lt all is few =
     let g : GoodCut s c = subst (GoodCut s) (sym is) (good-in s i lt) in
     record {
@@ -113,20 +113,21 @@ module _ (s : List ℕ) (t : Turn) (l : Listing) (x : Listed s t l) where
   unfolding textFrom Sound
   to-end h last ws = record { comes = sym (at-end h ∙ no-cut s (suc (t .number)) (t .total + l .count) (omega (arith, x .on .all))); sound = tt }
 
-  pub to-head : raysIn s c ≤ l .ray → t .number + 1 < t .cuts → (d : Cut) → d ≡ cutAfter s c → (ws : List ℕ)
-      → Reaches s ws (turnText s t (l .count)) (Head (record { number = t .number + 1; cuts = t .cuts; cut = d; ray = 0; bin = 0; total = t .total + l .count }))
+  pub to-head : raysIn s c ≤ l .ray → t .number + 1 < t .cuts → (d : Cut) → d ≡ cutAfter s c → (u : Turn) → u ≡ cutBegun (t .number + 1) (t .cuts) d (t .total + l .count)
+      → (ws : List ℕ) → Reaches s ws (turnText s t (l .count)) (Head u)
   unfolding textFrom turnText Sound
-  to-head h more d e ws =
+  to-head h more d e u begun ws =
       let o = x .on in
       let lt : suc (t .number) < length (cutsIn s) = omega (arith, o .all) in
       let is : d ≡ getD (cutsIn s) (suc (t .number)) noCut = e ∙ ap (cutAfter s) (o .is) ∙ sym (next-in s (t .number) lt) in
       let one : suc (t .number) ≡ t .number + 1 = sym (add-one (t .number)) in
       let L : List Entry = houseList s d 0 0 in
       let n : ℕ = t .total + l .count in
-      record {
+      subst (λ (z : Turn). Reaches s ws (turnText s t (l .count)) (Head z)) (sym begun)
+      (record {
         comes = sym (at-end h ∙ one-cut s (suc (t .number)) n lt d is ∙ (λ i. headOf s (one i) d ++ (entryLines L ++ textAt s (suc (one i)) (n + length L))));
         sound = on-first s (t .number + 1) n (t .cuts) d (omega (arith, o .all)) (o .all) (rw (← one) is) (let few = o .few in omega (arith, count-few));
-      }
+      })
 
 -- ---- a listing, and the words that it leaves
 pub to-show : (s : List ℕ) (t : Turn) (ws : List ℕ) (l : Listing) (w : List ℕ) → On s t → perEntry ≤ length ws

@@ -14,7 +14,7 @@ use Rattle.layout.specs.declared.Found.{Found}
 use Rattle.layout.specs.declared.Walked.the-variants as W
 use Rattle.lines.specs.Text.{refusedLine, endLine, entryLines}
 use Rattle.listing.specs.Listing.{headOf, houseList, cutLines, entryCount, verdictText, textOf}
-use Rattle.listing.specs.Progress.{cutsBy, cutsIn, textAt, turnText, textFrom, On, Sound}
+use Rattle.listing.specs.Progress.{cutsBy, cutsIn, cutBegun, textAt, turnText, textFrom, On, Sound}
 use Rattle.listing.specs.declared.Turn.{Turn}
 use Rattle.listing.specs.declared.Progress.the-variants.{Refused, Head}
 use Rattle.listing.proofs.AllCuts.{some-cut}
@@ -41,16 +41,12 @@ from-first : (s : List ℕ) → textAt s 0 0 ≡ cutLines s 0 (cutsIn s) ++ endL
 unfolding textAt
 from-first s = let sum : 0 + entryCount s (cutsIn s) ≡ entryCount s (cutsIn s) = omega arith in ap (λ (n : ℕ). cutLines s 0 (cutsIn s) ++ endLine n) sum
 
--- the turn at the first cut
-abbrev first : Found → Turn
-first f = record { number = 0; cuts = f .cuts; cut = f .cut; ray = 0; bin = 0; total = 0 }
-
-pub head-first : (s : List ℕ) (f : Found) → length s ≤ 65536 → answerFor 0 (verdict s) ≡ W.Whole f
-    → (textFrom s (Head (first f)) ≡ textOf s) × ((ws : List ℕ) → Sound s ws (Head (first f)))
+pub head-first : (s : List ℕ) (f : Found) (t : Turn) → t ≡ cutBegun 0 (f .cuts) (f .cut) 0 → length s ≤ 65536 → answerFor 0 (verdict s) ≡ W.Whole f
+    → (textFrom s (Head t) ≡ textOf s) × ((ws : List ℕ) → Sound s ws (Head t))
 unfolding textFrom turnText verdictText answerFor Sound
-head-first s f h e = go (verdict s) refl e
+head-first s f t begun h e = rw begun (go (verdict s) refl e)
   where
-    go : (v : Verdict) → verdict s ≡ v → answerFor 0 v ≡ W.Whole f → (textFrom s (Head (first f)) ≡ textOf s) × ((ws : List ℕ) → Sound s ws (Head (first f)))
+    go : (v : Verdict) → verdict s ≡ v → answerFor 0 v ≡ W.Whole f → (textFrom s (Head (cutBegun 0 (f .cuts) (f .cut) 0)) ≡ textOf s) × ((ws : List ℕ) → Sound s ws (Head (cutBegun 0 (f .cuts) (f .cut) 0)))
     go (refused r) u e = let z : _≡_ {A = ℕ} 0 1 = cc in absurd (omega arith)
     go (accepted cs) u e =
         let found : f ≡ record { cuts = length cs; cut = getD cs 0 noCut } = cc in

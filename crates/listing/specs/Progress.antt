@@ -30,6 +30,10 @@ cutsBy (refused r) = []
 abbrev pub cutsIn : List ℕ → List Cut
 cutsIn s = cutsBy (verdict s)
 
+-- a turn at the beginning of a cut
+abbrev pub cutBegun : ℕ → ℕ → Cut → ℕ → Turn
+cutBegun number cuts cut total = record { number = number; cuts = cuts; cut = cut; ray = 0; bin = 0; total = total }
+
 -- the list that a turn is at: the stretches of its cut from its point on
 abbrev pub listOf : List ℕ → Turn → List Entry
 listOf s t = houseList s (t .cut) (t .ray) (t .bin)

@@ -16,7 +16,7 @@ ghost use Rattle.layout.specs.Refusal.{numberOf, placeOf};
 ghost use Rattle.stretches.specs.Stretch.{perEntry};
 ghost use Rattle.lines.specs.Put.{Put};
 ghost use Rattle.listing.specs.Listing.{productNumber, headOf, textOf};
-ghost use Rattle.listing.specs.Progress.{textFrom, turnText, finished, rank, On, Listed, Held, Sound, Reaches, Goes, Paged};
+ghost use Rattle.listing.specs.Progress.{cutBegun, textFrom, turnText, finished, rank, On, Listed, Held, Sound, Reaches, Goes, Paged};
 
 // How many lines a step writes at most, and how much room it asks.
 const LINES: usize = 256;
@@ -108,6 +108,20 @@ fn least(a: usize, b: usize) -> usize
     if a < b { a } else { b }
 }
 
+// A turn at the beginning of a cut.
+fn cut_begun(number: usize, cuts: usize, cut: Cut, total: usize) -> Turn
+    ensures { λ r. ⌜ r ≡ cutBegun number cuts cut total ⌝ }
+{
+    Turn {
+        number,
+        cuts,
+        cut,
+        ray: 0,
+        bin: 0,
+        total,
+    }
+}
+
 // Before the first octet.
 pub fn start(file: &[u8]) -> Progress
     ensures { λ r. ⌜ textFrom (now (file .entry)) r ≡ textOf (now (file .entry)) ⌝ }
@@ -119,14 +133,7 @@ pub fn start(file: &[u8]) -> Progress
     match layout::walk(file, 0) {
         Walked::Whole(f) => {
             let cut = f.cut;
-            Progress::Head(Turn {
-                number: 0,
-                cuts: f.cuts,
-                cut,
-                ray: 0,
-                bin: 0,
-                total: 0,
-            })
+            Progress::Head(cut_begun(0, f.cuts, cut, 0))
         }
         Walked::Rejected(refusal) => Progress::Refused(refusal),
     }
@@ -174,14 +181,7 @@ fn moved_on(file: &[u8], t: Turn, l: Listing) -> Progress
     let number = t.number + 1;
     if number < t.cuts {
         let cut = cuts::next_cut(file, cut);
-        return Progress::Head(Turn {
-            number,
-            cuts: t.cuts,
-            cut,
-            ray: 0,
-            bin: 0,
-            total,
-        });
+        return Progress::Head(cut_begun(number, t.cuts, cut, total));
     }
     Progress::End(total)
 }

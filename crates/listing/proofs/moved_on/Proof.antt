@@ -6,13 +6,13 @@ use Rattle.listing.proofs.moved_on.Statement.{statement}
 use Rattle.listing.proofs.moved_on.Tie as tie
 
 add-total : tie.Need-add-total
-add-total c = record { fits = omega (arith, sum-few (c .before .before .before .before .args .file .now) (c .before .before .before .before .args .t) (c .before .before .before .before .args .l) (c .before .before .before .before .pre)) }
+add-total c = let s = c .before .before .before .before in record { fits = omega (arith, sum-few (s .args .file .now) (s .args .t) (s .args .l) (s .pre)) }
 
 rays-in-requires : tie.Need-rays-in-requires
 rays-in-requires c κs = search needs
 
 returns : tie.Need-returns
-returns c = to-fill (c .before .before .before .before .before .before .before .args .file .now) (c .before .before .before .before .before .before .before .args .t) (c .before .before .before .before .before .before .before .args .l) (c .before .before .before .before .before .before .before .pre) (rw (← c .before .before .rays-in .ensures) (c .if1 .taken))
+returns c = let s = c .before .before .before .before .before .before .before in to-fill (s .args .file .now) (s .args .t) (s .args .l) (s .pre) (rw (← c .before .before .rays-in .ensures) (c .if1 .taken))
 
 add-number : tie.Need-add-number
 add-number c = search needs
@@ -20,13 +20,26 @@ add-number c = search needs
 next-cut-requires : tie.Need-next-cut-requires
 next-cut-requires c κs = search needs
 
+cut-begun-requires : tie.Need-cut-begun-requires
+cut-begun-requires c κs = search needs
+
 returns-2 : tie.Need-returns-2
-returns-2 c = to-head (c .before .before .before .before .before .before .before .before .before .before .before .args .file .now) (c .before .before .before .before .before .before .before .before .before .before .before .args .t) (c .before .before .before .before .before .before .before .before .before .before .before .args .l) (c .before .before .before .before .before .before .before .before .before .before .before .pre) (rw (← c .before .before .before .before .before .before .rays-in .ensures) (c .before .before .before .before .if1 .left)) (c .before .if2 .taken) (c .next-cut .result) (c .next-cut .ensures)
+returns-2 c = let s = c .before .before .before .before .before .before .before .before .before .before .before .before in
+    to-head (s .args .file .now) (s .args .t) (s .args .l) (s .pre) (rw (← c .before .before .before .before .before .before .before .rays-in .ensures) (c .before .before .before .before .before .if1 .left)) (c .before .before .if2 .taken) (c .before .next-cut .result) (c .before .next-cut .ensures)
+    (c .cut-begun .result) (c .cut-begun .ensures)
 
 returns-3 : tie.Need-returns-3
-returns-3 c = to-end (c .before .before .before .before .before .before .before .before .before .before .args .file .now) (c .before .before .before .before .before .before .before .before .before .before .args .t) (c .before .before .before .before .before .before .before .before .before .before .args .l) (c .before .before .before .before .before .before .before .before .before .before .pre) (rw (← c .before .before .before .before .before .rays-in .ensures) (c .before .before .before .if1 .left)) (c .if2 .left)
+returns-3 c = let s = c .before .before .before .before .before .before .before .before .before .before in to-end (s .args .file .now) (s .args .t) (s .args .l) (s .pre) (rw (← c .before .before .before .before .before .rays-in .ensures) (c .before .before .before .if1 .left)) (c .if2 .left)
 
 pub moved-on-spec : {M : Type 1} → statement M
 moved-on-spec =
     tie.close
-    (tie.spec add-total rays-in-requires returns add-number next-cut-requires returns-2 returns-3)
+    (tie.spec
+    add-total
+    rays-in-requires
+    returns
+    add-number
+    next-cut-requires
+    cut-begun-requires
+    returns-2
+    returns-3)

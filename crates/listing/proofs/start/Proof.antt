@@ -17,11 +17,14 @@ walk-requires c κs = search needs
 enum-known-f : tie.Need-enum-known-f
 enum-known-f c = search needs
 
+cut-begun-requires : tie.Need-cut-begun-requires
+cut-begun-requires c κs = search needs
+
 enum-known-refusal : tie.Need-enum-known-refusal
 enum-known-refusal c = search needs
 
 returns-2 : tie.Need-returns-2
-returns-2 c = head-first (c .before .before .before .before .before .before .before .args .file .now) (c .before .before .f .given .0 .0) (omega arith) (sym (c .before .before .before .before .walk .ensures) ∙ c .before .before .f .given .1)
+returns-2 c = head-first (c .before .before .before .before .before .before .before .before .args .file .now) (c .before .before .before .f .given .0 .0) (c .cut-begun .result) (c .cut-begun .ensures) (omega arith) (sym (c .before .before .before .before .before .walk .ensures) ∙ c .before .before .before .f .given .1)
 
 returns-3 : tie.Need-returns-3
 unfolding Sound
@@ -29,4 +32,12 @@ returns-3 c = (refused-first (c .before .before .before .before .before .before 
 
 pub start-spec : {M : Type 1} → statement M
 start-spec =
-    tie.close (tie.spec returns walk-requires enum-known-f enum-known-refusal returns-2 returns-3)
+    tie.close
+    (tie.spec
+    returns
+    walk-requires
+    enum-known-f
+    cut-begun-requires
+    enum-known-refusal
+    returns-2
+    returns-3)
