@@ -1,14 +1,57 @@
-// How each answer of a file call goes out: the number returned, and the words of the lent answer. One function to an answer.
+// How each answer goes out: the number returned, and the words of the lent answer. One function to an answer.
 ghost use mathlib.Core.Path.{_≡_};
 ghost use lib.Seq.{sets};
+ghost use Rattle.polar_c.specs.Runs.{runReadNumber, runReadWords, runWriteNumber, runWriteWords};
 ghost use Rattle.polar_c.specs.Files.{productNumber, openNumber, openWords, elevationWords, infoWords, rayNumber, rayWords, binNumber, binWords, binHeld, stretchNumber, stretchWords};
+use packing::RunWrite;
 use polar::BinAnswer;
 use polar::CutInfo;
 use polar::Elevation;
 use polar::Opened;
 use polar::RayAnswer;
 use polar::StretchAnswer;
+use runs::RunRead;
 use values::Product;
+
+// ---- of the run calls
+
+// place
+pub fn tell_read(told: RunRead, place: &mut [u64; 1]) -> u32
+    ensures { λ r. ⌜ r ≡ runReadNumber told ⌝ }
+    ensures { λ r. ⌜ now (place .exit) ≡ runReadWords told (now (place .entry)) ⌝ }
+{
+    match told {
+        RunRead::Read => {
+            place[0] = 0;
+            0
+        }
+        RunRead::Refused(why) => {
+            place[0] = crate::refusals::read_place(why);
+            crate::refusals::read_number(why)
+        }
+    }
+}
+
+// place, V, number of octets
+pub fn tell_write(told: RunWrite, answer: &mut [u64; 3]) -> u32
+    ensures { λ r. ⌜ r ≡ runWriteNumber told ⌝ }
+    ensures { λ r. ⌜ now (answer .exit) ≡ runWriteWords told (now (answer .entry)) ⌝ }
+{
+    match told {
+        RunWrite::Wrote { v, len } => {
+            answer[0] = 0;
+            answer[1] = v as u64;
+            answer[2] = len as u64;
+            0
+        }
+        RunWrite::Refused(why) => {
+            answer[0] = crate::refusals::write_place(why);
+            crate::refusals::write_number(why)
+        }
+    }
+}
+
+// ---- of the calls of a file
 
 fn product_number(product: Product) -> u64
     ensures { λ r. ⌜ r ≡ productNumber product ⌝ }

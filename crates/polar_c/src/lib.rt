@@ -9,10 +9,8 @@ ghost use Rattle.polar_c.specs.Files.{OpenCall, CutCall, RayLevelsCall, 
 mod answers;
 mod refusals;
 
-use packing::RunWrite;
 use polar::CutAnswer;
 use runs::RunCheck;
-use runs::RunRead;
 
 // ---- runs, without a file
 
@@ -38,16 +36,7 @@ pub extern "C" fn polar_run_read(
 ) -> u32
     ensures { λ r. ⌜ RunReadCall v n (now (octets .entry)) (now (out .entry)) (now (place .entry)) r (now (out .exit)) (now (place .exit)) ⌝ }
 {
-    match runs::run_read(octets, v, n, out) {
-        RunRead::Read => {
-            place[0] = 0;
-            0
-        }
-        RunRead::Refused(why) => {
-            place[0] = refusals::read_place(why);
-            refusals::read_number(why)
-        }
-    }
+    answers::tell_read(runs::run_read(octets, v, n, out), place)
 }
 
 // Run write: the octets for the levels at the front of `out`; `answer` is place, V, number of octets.
@@ -55,18 +44,7 @@ pub extern "C" fn polar_run_read(
 pub extern "C" fn polar_run_write(levels: &[u8], out: &mut [u8], answer: &mut [u64; 3]) -> u32
     ensures { λ r. ⌜ RunWriteCall (now (levels .entry)) (now (out .entry)) (now (answer .entry)) r (now (out .exit)) (now (answer .exit)) ⌝ }
 {
-    match packing::run_write(levels, out) {
-        RunWrite::Wrote { v, len } => {
-            answer[0] = 0;
-            answer[1] = v as u64;
-            answer[2] = len as u64;
-            0
-        }
-        RunWrite::Refused(why) => {
-            answer[0] = refusals::write_place(why);
-            refusals::write_number(why)
-        }
-    }
+    answers::tell_write(packing::run_write(levels, out), answer)
 }
 
 // ---- files

@@ -11,7 +11,9 @@ tell-bin-requires : tie.Need-tell-bin-requires
 tell-bin-requires c κs = search needs
 
 returns : tie.Need-returns
-returns c = let e = sym (c .before .before .before .bin-value .ensures) in record { returned = rw e (c .tell-bin .ensures .0); held = rw e (c .tell-bin .ensures .1 .0); told = rw e (c .tell-bin .ensures .1 .1) }
+returns c =
+    let e = sym (c .before .before .before .bin-value .ensures) in
+    record { returned = rw e (c .tell-bin .ensures .0); held = rw e (c .tell-bin .ensures .1 .0); told = rw e (c .tell-bin .ensures .1 .1) }
 
 pub polar-bin-value-spec : {M : Type 1} → statement M
 polar-bin-value-spec = tie.close (tie.spec bin-value-requires tell-bin-requires returns)

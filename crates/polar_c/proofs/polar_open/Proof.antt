@@ -11,7 +11,9 @@ tell-open-requires : tie.Need-tell-open-requires
 tell-open-requires c κs = search needs
 
 returns : tie.Need-returns
-returns c = let e = sym (c .before .before .open .ensures) in record { returned = rw e (c .tell-open .ensures .0); told = rw e (c .tell-open .ensures .1) }
+returns c =
+    let e = sym (c .before .before .open .ensures) in
+    record { returned = rw e (c .tell-open .ensures .0); told = rw e (c .tell-open .ensures .1) }
 
 pub polar-open-spec : {M : Type 1} → statement M
 polar-open-spec = tie.close (tie.spec open-requires tell-open-requires returns)

@@ -1,7 +1,5 @@
 -- `tell_bin` meets its contract: each case of the answer of bin value goes out by its definition.
-use Prim.Native.Nat.{ℕ}
-use lib.ListN.{set}
-use mathlib.Core.Path.{refl, ap}
+use mathlib.Core.Path.{refl}
 use borrow.Author.Needs.{needs}
 use Rattle.polar_c.proofs.answers.tell_bin.Statement.{statement}
 use Rattle.polar_c.proofs.answers.tell_bin.Tie as tie
@@ -43,7 +41,7 @@ returns-2 : tie.Need-returns-2
 returns-2 c = rw (c .before .told .given .1) (refl, (refl, refl))
 
 returns-3 : tie.Need-returns-3
-returns-3 c = rw (c .before .before .before .told2 .given .1) (c .ask-number .ensures, (refl, ap (λ (x : ℕ). set (c .before .before .before .before .before .args .answer .now) 0 x) (c .before .ask-place .ensures)))
+returns-3 c = rw (c .before .before .before .told2 .given .1, c .before .ask-place .ensures) (c .ask-number .ensures, (refl, refl))
 
 pub tell-bin-spec : {M : Type 1} → statement M
 tell-bin-spec =

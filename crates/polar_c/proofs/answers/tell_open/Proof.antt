@@ -1,7 +1,5 @@
 -- `tell_open` meets its contract: each case of the answer of open goes out by its definition.
-use Prim.Native.Nat.{ℕ}
-use lib.ListN.{set}
-use mathlib.Core.Path.{refl, ap}
+use mathlib.Core.Path.{refl}
 use borrow.Author.Needs.{needs}
 use Rattle.polar_c.proofs.answers.tell_open.Statement.{statement}
 use Rattle.polar_c.proofs.answers.tell_open.Tie as tie
@@ -79,7 +77,7 @@ returns : tie.Need-returns
 returns c = rw (c .before .before .before .before .before .before .before .before .before .told .given .1, c .before .before .before .before .before .before .before .product-number .ensures) (refl, refl)
 
 returns-2 : tie.Need-returns-2
-returns-2 c = rw (c .before .before .before .told2 .given .1) (c .file-number .ensures, ap (λ (x : ℕ). set (c .before .before .before .before .before .args .answer .now) 0 x) (c .before .file-place .ensures))
+returns-2 c = rw (c .before .before .before .told2 .given .1, c .before .file-place .ensures) (c .file-number .ensures, refl)
 
 pub tell-open-spec : {M : Type 1} → statement M
 tell-open-spec =

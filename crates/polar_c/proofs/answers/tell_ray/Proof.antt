@@ -1,7 +1,5 @@
 -- `tell_ray` meets its contract: each case of the answer of a ray call goes out by its definition.
-use Prim.Native.Nat.{ℕ}
-use lib.ListN.{set}
-use mathlib.Core.Path.{refl, ap}
+use mathlib.Core.Path.{refl}
 use borrow.Author.Needs.{needs}
 use Rattle.polar_c.proofs.answers.tell_ray.Statement.{statement}
 use Rattle.polar_c.proofs.answers.tell_ray.Tie as tie
@@ -28,7 +26,7 @@ returns : tie.Need-returns
 returns c = rw (c .enum-told .given .1) (refl, refl)
 
 returns-2 : tie.Need-returns-2
-returns-2 c = rw (c .before .before .before .told .given .1) (c .fill-number .ensures, ap (λ (x : ℕ). set (c .before .before .before .before .before .args .place .now) 0 x) (c .before .fill-place .ensures))
+returns-2 c = rw (c .before .before .before .told .given .1, c .before .fill-place .ensures) (c .fill-number .ensures, refl)
 
 pub tell-ray-spec : {M : Type 1} → statement M
 tell-ray-spec =
