@@ -13,14 +13,14 @@ use Rattle.layout.specs.Good.{GoodCut}
 use Rattle.layout.specs.Verdict.{noCut}
 use Rattle.layout.specs.declared.Cut.{Cut}
 use Rattle.stretches.specs.Stretch.{Entry, perEntry, wordsOf}
-use Rattle.stretches.specs.Call.{fitting, answerOf, outOf, rightPoint}
+use Rattle.stretches.specs.Call.{houseThreshold, fitting, answerOf, outOf, rightPoint}
 use Rattle.stretches.specs.declared.Listing.{Listing}
 use Rattle.cuts.specs.After.{cutAfter}
 use Rattle.cuts.specs.Bins.{stretchesIn}
 use Rattle.lines.specs.Text.{entryLines}
 use Rattle.lines.specs.Words.{entriesIn}
 use Rattle.lines.proofs.Words.{held}
-use Rattle.listing.specs.Listing.{threshold, headOf, houseList}
+use Rattle.listing.specs.Listing.{headOf, houseList}
 use Rattle.listing.specs.Progress.{cutsIn, cutBegun, listOf, textAt, turnText, textFrom, On, Listed, Sound, Reaches}
 use Rattle.listing.specs.declared.Turn.{Turn}
 use Rattle.listing.specs.declared.Progress.the-variants.{Head, Fill, Show, End}
@@ -40,9 +40,9 @@ on-first s i n k c lt all is few =
       within = lt;
       all = all;
       is = is;
-      point = first-point s c (pos threshold) g;
-      some = entries-some s c (pos threshold) g;
-      few = omega (arith, entries-few s c (pos threshold) g 0 0);
+      point = first-point s c (pos houseThreshold) g;
+      some = entries-some s c (pos houseThreshold) g;
+      few = omega (arith, entries-few s c (pos houseThreshold) g 0 0);
     }
 
 module _ (s : List ℕ) (t : Turn) (l : Listing) (x : Listed s t l) where
@@ -65,22 +65,22 @@ module _ (s : List ℕ) (t : Turn) (l : Listing) (x : Listed s t l) where
   rest : houseList s c (l .ray) (l .bin) ≡ drop (l .count) (listOf s t)
   rest =
       subst (λ (a : Listing). houseList s c (a .ray) (a .bin) ≡ drop (a .count) (listOf s t)) (sym (x .answer))
-      (rest-is s c (pos threshold) g (t .ray) (t .bin) (x .room))
+      (rest-is s c (pos houseThreshold) g (t .ray) (t .bin) (x .room))
 
   right : rightPoint (binsIn s c) (raysIn s c) (l .ray) (l .bin) ≡ true
   right =
       subst (λ (a : Listing). rightPoint (binsIn s c) (raysIn s c) (a .ray) (a .bin) ≡ true) (sym (x .answer))
-      (rest-right s c (pos threshold) g (t .ray) (t .bin) (x .room))
+      (rest-right s c (pos houseThreshold) g (t .ray) (t .bin) (x .room))
 
   left-some : l .ray < raysIn s c → 0 < length (drop (l .count) (listOf s t))
   left-some =
       subst (λ (a : Listing). a .ray < raysIn s c → 0 < length (drop (a .count) (listOf s t))) (sym (x .answer))
-      (rest-some s c (pos threshold) g (t .ray) (t .bin) (x .room))
+      (rest-some s c (pos houseThreshold) g (t .ray) (t .bin) (x .room))
 
   left-none : raysIn s c ≤ l .ray → drop (l .count) (listOf s t) ≡ []
   left-none =
       subst (λ (a : Listing). raysIn s c ≤ a .ray → drop (a .count) (listOf s t) ≡ []) (sym (x .answer))
-      (rest-none s c (pos threshold) g (t .ray) (t .bin) (x .room))
+      (rest-none s c (pos houseThreshold) g (t .ray) (t .bin) (x .room))
 
   pub to-fill : l .ray < raysIn s c → (ws : List ℕ)
       → Reaches s ws (turnText s t (l .count)) (Fill (record { number = t .number; cuts = t .cuts; cut = c; ray = l .ray; bin = l .bin; total = t .total + l .count }))

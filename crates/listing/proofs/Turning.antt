@@ -13,9 +13,10 @@ use Rattle.stretches.specs.Stretch.{Entry, perEntry}
 use Rattle.stretches.specs.declared.Listing.{Listing}
 use Rattle.lines.specs.Text.{entryLines, endLine}
 use Rattle.lines.proofs.Lines.{lines-append}
-use Rattle.listing.specs.Listing.{threshold, headOf, houseList, cutLines, entryCount}
+use Rattle.listing.specs.Listing.{headOf, houseList, cutLines, entryCount}
 use Rattle.listing.specs.Progress.{cutsIn, listOf, textAt, turnText}
 use Rattle.listing.specs.declared.Turn.{Turn}
+use Rattle.stretches.specs.Call.{houseThreshold}
 
 -- past the last cut
 pub no-cut : (s : List ℕ) (i n : ℕ) → length (cutsIn s) ≤ i → textAt s i n ≡ endLine n

@@ -13,12 +13,9 @@ use Rattle.layout.specs.Refusal.{numberOf, placeOf}
 use Rattle.layout.specs.Verdict.{Verdict, accepted, refused, verdict}
 use Rattle.layout.specs.declared.Cut.{Cut}
 use Rattle.stretches.specs.Stretch.{Entry}
+use Rattle.stretches.specs.Call.{houseThreshold}
 use Rattle.cuts.specs.Bins.{stretchesIn}
 use Rattle.lines.specs.Text.{entryLines, headLine, refusedLine, endLine}
-
--- the house threshold, in hundredths
-abbrev pub threshold : ℕ
-threshold = 4000
 
 -- the product as the file numbers it
 abbrev pub productNumber : Product → ℕ
@@ -27,11 +24,11 @@ productNumber Velocity = 2
 
 -- the first line of cut i
 unfoldable pub headOf : List ℕ → ℕ → Cut → List ℕ
-headOf s i c = headLine i (productNumber (productIn s c)) (binsIn s c) (raysIn s c) threshold
+headOf s i c = headLine i (productNumber (productIn s c)) (binsIn s c) (raysIn s c) houseThreshold
 
 -- its stretches from a point on, at the house threshold
 abbrev pub houseList : List ℕ → Cut → ℕ → ℕ → List Entry
-houseList s c ray bin = stretchesIn s c (pos threshold) ray bin
+houseList s c ray bin = stretchesIn s c (pos houseThreshold) ray bin
 
 -- the lines of cuts, numbered from i on
 unfoldable pub cutLines : List ℕ → ℕ → List Cut → List ℕ

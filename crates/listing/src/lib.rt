@@ -18,9 +18,6 @@ ghost use Rattle.lines.specs.Put.{Put};
 ghost use Rattle.listing.specs.Listing.{productNumber, headOf, textOf};
 ghost use Rattle.listing.specs.Progress.{cutBegun, textFrom, turnText, finished, rank, On, Listed, Held, Sound, Reaches, Goes, Paged};
 
-// The house threshold, in hundredths.
-const HOUSE: i32 = 4000;
-
 // How many lines a step writes at most, and how much room it asks.
 const LINES: usize = 256;
 
@@ -161,7 +158,7 @@ fn put_first_line(file: &[u8], t: Turn, text: &mut [u8], at: usize) -> usize
     let product = product_number(layout::product_in(file, cut));
     let bins = cuts::bins_in(file, cut);
     let rays = cuts::rays_in(file, cut);
-    lines::put_head(text, at, t.number, product, bins, rays, HOUSE as usize)
+    lines::put_head(text, at, t.number, product, bins, rays, stretches::HOUSE as usize)
 }
 
 // Past the entries of a listing: more of the same cut, the next cut, or the end.
@@ -196,7 +193,7 @@ fn fill(file: &[u8], t: Turn, words: &mut [u32]) -> Progress
     ensures { λ r. ⌜ rank r ≡ 0 ⌝ }
 {
     let cut = t.cut;
-    let listing = cuts::list_into(file, cut, HOUSE, t.ray, t.bin, words);
+    let listing = cuts::list_into(file, cut, stretches::HOUSE, t.ray, t.bin, words);
     Progress::Show(t, listing, 0)
 }
 

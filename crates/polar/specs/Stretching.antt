@@ -8,7 +8,7 @@ use Rattle.layout.specs.Parts.{binsIn, raysIn}
 use Rattle.layout.specs.Verdict.{verdict}
 use Rattle.layout.specs.declared.Cut.{Cut}
 use Rattle.stretches.specs.Stretch.{perEntry}
-use Rattle.stretches.specs.Call.{answerOf, outOf, rightT, rightPoint}
+use Rattle.stretches.specs.Call.{houseThreshold, answerOf, outOf, rightT, rightPoint}
 use Rattle.cuts.specs.Bins.{stretchesIn}
 use Rattle.polar.specs.Cuts.{onCut, cutIn}
 use Rattle.polar.specs.declared.StretchAnswer.{StretchAnswer}
@@ -35,4 +35,4 @@ wordsAfter a s i t ray bin words = ifListed a (outOf words (stretchesIn s (cutIn
 
 -- "A house form uses T = 4000"
 abbrev pub house : ℤ
-house = pos 4000
+house = pos houseThreshold

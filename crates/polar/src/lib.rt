@@ -91,9 +91,6 @@ pub enum StretchAnswer {
     Refused(FillRefusal),
 }
 
-// The house threshold, in hundredths.
-const HOUSE: i32 = 4000;
-
 // ---- open and cut
 
 fn summary_of(file: &[u8], n: usize, c: Cut) -> Summary
@@ -376,5 +373,5 @@ pub fn house_stretches(
     ensures { λ r. ⌜ r ≡ stretchAnswer (now (file .entry)) i house ray bin (length (now (words .entry))) ⌝ }
     ensures { λ r. ⌜ now (words .exit) ≡ wordsAfter r (now (file .entry)) i house ray bin (now (words .entry)) ⌝ }
 {
-    stretches(file, i, HOUSE, ray, bin, words)
+    stretches(file, i, stretches::HOUSE, ray, bin, words)
 }

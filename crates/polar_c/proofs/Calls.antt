@@ -1,8 +1,11 @@
--- The promises of the run calls for C leave one outcome: each of its parts is an equation.
+-- Each promise to C leaves one outcome: two outcomes that it allows are equal, since each of its parts is an equation.
 use Prim.Native.Nat.{ℕ}
 use mathlib.Core.Path.{_≡_, sym, _∙_}
 use mathlib.Core.List.{List}
+use lib.IntN.{ℤ}
+use lib.Ieee.{Float}
 use Rattle.polar_c.specs.Runs.{RunCheckCall, RunReadCall, RunWriteCall}
+use Rattle.polar_c.specs.Files.{OpenCall, CutCall, RayLevelsCall, RayValuesCall, BinValueCall, StretchesCall}
 
 pub run-check-one : {v n : ℕ} {octets : List ℕ} {x y : ℕ} → RunCheckCall v n octets x → RunCheckCall v n octets y → x ≡ y
 run-check-one p q = p .returned ∙ sym (q .returned)
@@ -14,3 +17,28 @@ run-read-one p q = (p .returned ∙ sym (q .returned), p .held ∙ sym (q .held)
 pub run-write-one : {row lent answer : List ℕ} {x y : ℕ} {l l′ w w′ : List ℕ} →
     RunWriteCall row lent answer x l w → RunWriteCall row lent answer y l′ w′ → (x ≡ y) × (l ≡ l′) × (w ≡ w′)
 run-write-one p q = (p .returned ∙ sym (q .returned), p .held ∙ sym (q .held), p .told ∙ sym (q .told))
+
+pub open-one : {file answer : List ℕ} {x y : ℕ} {w w′ : List ℕ} → OpenCall file answer x w → OpenCall file answer y w′ → (x ≡ y) × (w ≡ w′)
+open-one p q = (p .returned ∙ sym (q .returned), p .told ∙ sym (q .told))
+
+pub cut-one : {file : List ℕ} {cut : ℕ} {answer : List ℤ} {x y : ℕ} {w w′ : List ℤ} →
+    CutCall file cut answer x w → CutCall file cut answer y w′ → (x ≡ y) × (w ≡ w′)
+cut-one p q = (p .returned ∙ sym (q .returned), p .told ∙ sym (q .told))
+
+pub ray-levels-one : {file : List ℕ} {cut ray : ℕ} {lent place : List ℕ} {x y : ℕ} {l l′ w w′ : List ℕ} →
+    RayLevelsCall file cut ray lent place x l w → RayLevelsCall file cut ray lent place y l′ w′ → (x ≡ y) × (l ≡ l′) × (w ≡ w′)
+ray-levels-one p q = (p .returned ∙ sym (q .returned), p .held ∙ sym (q .held), p .told ∙ sym (q .told))
+
+pub ray-values-one : {file : List ℕ} {cut ray : ℕ} {marks : List ℕ} {values : List ℤ} {place : List ℕ} {x y : ℕ} {m m′ : List ℕ} {v v′ : List ℤ} {w w′ : List ℕ} →
+    RayValuesCall file cut ray marks values place x m v w → RayValuesCall file cut ray marks values place y m′ v′ w′ → (x ≡ y) × (m ≡ m′) × (v ≡ v′) × (w ≡ w′)
+ray-values-one p q =
+    (p .returned ∙ sym (q .returned), p .marked ∙ sym (q .marked), p .held ∙ sym (q .held), p .told ∙ sym (q .told))
+
+pub bin-value-one : {file : List ℕ} {cut ray bin : ℕ} {value : Float} {answer : List ℕ} {x y : ℕ} {v v′ : Float} {w w′ : List ℕ} →
+    BinValueCall file cut ray bin value answer x v w → BinValueCall file cut ray bin value answer y v′ w′ → (x ≡ y) × (v ≡ v′) × (w ≡ w′)
+bin-value-one p q = (p .returned ∙ sym (q .returned), p .held ∙ sym (q .held), p .told ∙ sym (q .told))
+
+-- of both stretch calls: the house form is the one at the house threshold
+pub stretches-one : {file : List ℕ} {cut : ℕ} {t : ℤ} {ray bin : ℕ} {lent answer : List ℕ} {x y : ℕ} {l l′ w w′ : List ℕ} →
+    StretchesCall file cut t ray bin lent answer x l w → StretchesCall file cut t ray bin lent answer y l′ w′ → (x ≡ y) × (l ≡ l′) × (w ≡ w′)
+stretches-one p q = (p .returned ∙ sym (q .returned), p .held ∙ sym (q .held), p .told ∙ sym (q .told))

@@ -2,65 +2,19 @@
 // Each call returns 0 or document 01's refusal number; the words of an answer go to a lent array, its first the refusal's place (0 where not
 // refused). Nothing is decided here: the crates below decide, and specs/ says how each of their answers goes out.
 ghost use mathlib.Core.Path.{_≡_};
-ghost use Rattle.runs.specs.Read.{readNumber, readPlace, checkNumber};
-ghost use Rattle.packing.specs.Write.{writeNumber, writePlace};
+ghost use Rattle.polar.specs.Stretching.{house};
 ghost use Rattle.polar_c.specs.Runs.{RunCheckCall, RunReadCall, RunWriteCall};
+ghost use Rattle.polar_c.specs.Files.{OpenCall, CutCall, RayLevelsCall, RayValuesCall, BinValueCall, StretchesCall};
+
+mod answers;
+mod refusals;
+
 use packing::RunWrite;
-use packing::WriteRefusal;
-use runs::CheckRefusal;
-use runs::ReadRefusal;
+use polar::CutAnswer;
 use runs::RunCheck;
 use runs::RunRead;
 
-fn check_number(why: CheckRefusal) -> u32
-    ensures { λ r. ⌜ r ≡ checkNumber why ⌝ }
-{
-    match why {
-        CheckRefusal::VOver253 => 12,
-        CheckRefusal::TooManyBins => 10,
-        CheckRefusal::WrongBins => 8,
-    }
-}
-
-fn read_number(why: ReadRefusal) -> u32
-    ensures { λ r. ⌜ r ≡ readNumber why ⌝ }
-{
-    match why {
-        ReadRefusal::VOver253 => 12,
-        ReadRefusal::TooManyBins => 10,
-        ReadRefusal::RoomTooShort => 11,
-        ReadRefusal::WrongBins => 8,
-    }
-}
-
-fn read_place(why: ReadRefusal) -> u64
-    ensures { λ r. ⌜ r ≡ readPlace why ⌝ }
-{
-    match why {
-        ReadRefusal::VOver253 => 0,
-        ReadRefusal::TooManyBins => 0,
-        ReadRefusal::RoomTooShort => 0,
-        ReadRefusal::WrongBins => 0,
-    }
-}
-
-fn write_number(why: WriteRefusal) -> u32
-    ensures { λ r. ⌜ r ≡ writeNumber why ⌝ }
-{
-    match why {
-        WriteRefusal::LevelsOutOfRange => 10,
-        WriteRefusal::RoomTooShort => 11,
-    }
-}
-
-fn write_place(why: WriteRefusal) -> u64
-    ensures { λ r. ⌜ r ≡ writePlace why ⌝ }
-{
-    match why {
-        WriteRefusal::LevelsOutOfRange => 0,
-        WriteRefusal::RoomTooShort => 0,
-    }
-}
+// ---- runs, without a file
 
 // Run check: 0, 12, 10 or 8, what run read would find.
 #[no_mangle]
@@ -69,7 +23,7 @@ pub extern "C" fn polar_run_check(octets: &[u8], v: u8, n: usize) -> u32
 {
     match runs::run_check(octets, v, n) {
         RunCheck::Gives => 0,
-        RunCheck::Refused(why) => check_number(why),
+        RunCheck::Refused(why) => refusals::check_number(why),
     }
 }
 
@@ -90,8 +44,8 @@ pub extern "C" fn polar_run_read(
             0
         }
         RunRead::Refused(why) => {
-            place[0] = read_place(why);
-            read_number(why)
+            place[0] = refusals::read_place(why);
+            refusals::read_number(why)
         }
     }
 }
@@ -109,8 +63,110 @@ pub extern "C" fn polar_run_write(levels: &[u8], out: &mut [u8], answer: &mut [u
             0
         }
         RunWrite::Refused(why) => {
-            answer[0] = write_place(why);
-            write_number(why)
+            answer[0] = refusals::write_place(why);
+            refusals::write_number(why)
         }
     }
+}
+
+// ---- files
+
+// Open: `answer` is place, product, year, month, day, hour, minute, second, site, number of cuts.
+#[no_mangle]
+pub extern "C" fn polar_open(file: &[u8], answer: &mut [u64; 10]) -> u32
+    ensures { λ r. ⌜ OpenCall (now (file .entry)) (now (answer .entry)) r (now (answer .exit)) ⌝ }
+{
+    answers::tell_open(polar::open(file), answer)
+}
+
+// Cut: what sections 3 and 4 say of one cut.
+#[no_mangle]
+pub extern "C" fn polar_cut(file: &[u8], cut: usize, answer: &mut [i64; 11]) -> u32
+    ensures { λ r. ⌜ CutCall (now (file .entry)) cut (now (answer .entry)) r (now (answer .exit)) ⌝ }
+{
+    match polar::cut_info(file, cut) {
+        CutAnswer::Cut(info) => {
+            answers::tell_info(info, answer);
+            0
+        }
+        CutAnswer::Refused(why) => {
+            answer[0] = refusals::ask_place(why) as i64;
+            refusals::ask_number(why)
+        }
+    }
+}
+
+// Ray levels: Nb levels at the front of `levels`.
+#[no_mangle]
+pub extern "C" fn polar_ray_levels(
+    file: &[u8],
+    cut: usize,
+    ray: usize,
+    levels: &mut [u8],
+    place: &mut [u64; 1],
+) -> u32
+    ensures { λ r. ⌜ RayLevelsCall (now (file .entry)) cut ray (now (levels .entry)) (now (place .entry)) r (now (levels .exit)) (now (place .exit)) ⌝ }
+{
+    answers::tell_ray(polar::ray_levels(file, cut, ray, levels), place)
+}
+
+// Ray values: Nb marks, and the value at each measured place.
+#[no_mangle]
+pub extern "C" fn polar_ray_values(
+    file: &[u8],
+    cut: usize,
+    ray: usize,
+    marks: &mut [u8],
+    values: &mut [i32],
+    place: &mut [u64; 1],
+) -> u32
+    ensures { λ r. ⌜ RayValuesCall (now (file .entry)) cut ray (now (marks .entry)) (now (values .entry)) (now (place .entry)) r (now (marks .exit)) (now (values .exit)) (now (place .exit)) ⌝ }
+{
+    answers::tell_ray(polar::ray_values(file, cut, ray, marks, values), place)
+}
+
+// Bin value: `value` is set where the bin is measured; `answer` is place, mark.
+#[no_mangle]
+pub extern "C" fn polar_bin_value(
+    file: &[u8],
+    cut: usize,
+    ray: usize,
+    bin: usize,
+    value: &mut f64,
+    answer: &mut [u64; 2],
+) -> u32
+    ensures { λ r. ⌜ BinValueCall (now (file .entry)) cut ray bin (now (value .entry)) (now (answer .entry)) r (now (value .exit)) (now (answer .exit)) ⌝ }
+{
+    answers::tell_bin(polar::bin_value(file, cut, ray, bin), value, answer)
+}
+
+// Stretches: four words to an entry at the front of `words`; `answer` is place, count of entries, the next point's ray and bin.
+#[no_mangle]
+pub extern "C" fn polar_stretches(
+    file: &[u8],
+    cut: usize,
+    t: i32,
+    ray: usize,
+    bin: usize,
+    words: &mut [u32],
+    answer: &mut [u64; 4],
+) -> u32
+    ensures { λ r. ⌜ StretchesCall (now (file .entry)) cut t ray bin (now (words .entry)) (now (answer .entry)) r (now (words .exit)) (now (answer .exit)) ⌝ }
+{
+    answers::tell_stretches(polar::stretches(file, cut, t, ray, bin, words), answer)
+}
+
+// The same at the house threshold.
+#[no_mangle]
+pub extern "C" fn polar_house_stretches(
+    file: &[u8],
+    cut: usize,
+    ray: usize,
+    bin: usize,
+    words: &mut [u32],
+    answer: &mut [u64; 4],
+) -> u32
+    ensures { λ r. ⌜ StretchesCall (now (file .entry)) cut house ray bin (now (words .entry)) (now (answer .entry)) r (now (words .exit)) (now (answer .exit)) ⌝ }
+{
+    answers::tell_stretches(polar::house_stretches(file, cut, ray, bin, words), answer)
 }

@@ -87,6 +87,20 @@ unfolding wordsOf
 length-words [] = refl
 length-words (e ∷ a) = omega (arith, length-words a)
 
+-- words tell the entries
+pub words-same : (a b : List Entry) → wordsOf a ≡ wordsOf b → a ≡ b
+unfolding wordsOf
+words-same [] [] h = refl
+words-same [] (f ∷ b) h = let z : _≡_ {A = ℕ} 0 1 = cc in absurd (omega arith)
+words-same (e ∷ a) [] h = let z : _≡_ {A = ℕ} 0 1 = cc in absurd (omega arith)
+words-same (e ∷ a) (f ∷ b) h =
+    let r : e .ray ≡ f .ray = cc in
+    let i : e .first ≡ f .first = cc in
+    let l : e .len ≡ f .len = cc in
+    let k : e .kind ≡ f .kind = cc in
+    let w : wordsOf a ≡ wordsOf b = cc in
+    λ j. record { ray = r j; first = i j; len = l j; kind = k j } ∷ words-same a b w j
+
 pub sets-append : (vs l ws : List ℕ) (i : ℕ) → sets (sets l i vs) (i + length vs) ws ≡ sets l i (vs ++ ws)
 sets-append [] l ws i = rw add-zero
 sets-append (a ∷ vs) l ws i = rw (add-suc, ← suc-add) (sets-append vs (set l i a) ws (suc i))

@@ -30,10 +30,10 @@ module _ (sc : Scale) (v : ℕ) (xs : List ℕ) (nb nr : ℕ) where
   abbrev pub whole : List Entry
   whole = stretchesOf sc (levels v xs) nb (nr * nb)
 
-  abbrev start : Point
+  abbrev pub start : Point
   start = record { ray = 0; bin = 0 }
 
-  abbrev end : Point
+  abbrev pub end : Point
   end = record { ray = nr; bin = 0 }
 
   whole-rising : Rising nb 0 (nr * nb) whole
@@ -81,7 +81,7 @@ module _ (sc : Scale) (v : ℕ) (xs : List ℕ) (nb nr : ℕ) where
       omega (arith, fewer (next (answerOf nr n (from sc v xs nb nr p))) ns (r .1), ap length (from-next p n) ∙ length-drop (n / perEntry) (from sc v xs nb nr p), r .0)
 
   -- with nothing left the point is (nr, 0)
-  next-end : (p : Point) (n : ℕ) → from sc v xs nb nr (next (answerOf nr n (from sc v xs nb nr p))) ≡ [] → next (answerOf nr n (from sc v xs nb nr p)) ≡ end
+  pub next-end : (p : Point) (n : ℕ) → from sc v xs nb nr (next (answerOf nr n (from sc v xs nb nr p))) ≡ [] → next (answerOf nr n (from sc v xs nb nr p)) ≡ end
   next-end p n h = go (drop (n / perEntry) (from sc v xs nb nr p)) refl (sym (from-next p n) ∙ h)
     where
       go : (l : List Entry) → drop (n / perEntry) (from sc v xs nb nr p) ≡ l → drop (n / perEntry) (from sc v xs nb nr p) ≡ [] → next (answerOf nr n (from sc v xs nb nr p)) ≡ end

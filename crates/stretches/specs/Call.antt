@@ -51,6 +51,10 @@ pub record Part (v nb nr : ℕ) (xs : List ℕ) : Type 0 where
   pub nr-le : nr ≤ 1024
   pub given : gives v (nr * nb) xs ≡ true
 
+-- "A house form uses T = 4000", in hundredths
+abbrev pub houseThreshold : ℕ
+houseThreshold = 4000
+
 -- "threshold T in hundredths (-32767 to 32767)"
 unfoldable pub rightT : ℤ → Bool
 rightT t = not (ltZ t (negsuc 32766)) && not (ltZ (pos 32767) t)

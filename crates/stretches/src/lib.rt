@@ -19,6 +19,9 @@ ghost use Rattle.stretches.specs.Call.{Part, scaleOf, scaleBy, listed, a
 // How many words an entry takes.
 pub const WORDS: usize = 4;
 
+// The house threshold, in hundredths.
+pub const HOUSE: i32 = 4000;
+
 // How many entries were written, and the point where the next call goes on.
 pub struct Listing {
     pub count: usize,

@@ -1,6 +1,6 @@
 // The published values in hundredths, as constant tables; what a level is (missing, or a number), its mark, value and kind; and
-// section 5's table, octet for octet. Stands on nothing but numbers; `layout` judges section 5 with it, `polar` and `stretches`
-// take a bin's reading and kind from it.
+// section 5's table, octet for octet. Its laws stand on `octets` (sign and magnitude) and `fraction` (a value as a float); `layout` judges
+// section 5 with it, `polar` and `stretches` take a bin's reading and kind from it.
 //
 // A constant table that a loop indexes is laid out anew at each use. So whatever loops over levels is lent the table as a slice,
 // and one function on the product above it lends it.
@@ -46,19 +46,8 @@ fn value_in(product: Product, table: &[i16], level: u8) -> i32
     table[n - 1] as i32
 }
 
-// The value of a level above 0.
-pub fn value_of(product: Product, level: u8) -> i32
-    requires { ⌜ (1 ≤ level) × (level ≤ levelCount product) ⌝ }
-    ensures { λ r. ⌜ r ≡ published product level ⌝ }
-{
-    match product {
-        Product::Reflectivity => value_in(product, &tables::REFLECTIVITY, level),
-        Product::Velocity => value_in(product, &tables::VELOCITY, level),
-    }
-}
-
 // What a level tells, from the product's table.
-pub fn reading_in(product: Product, table: &[i16], level: u8) -> Reading
+fn reading_in(product: Product, table: &[i16], level: u8) -> Reading
     requires { ⌜ now table ≡ tableOf product ⌝ }
     requires { ⌜ level ≤ levelCount product ⌝ }
     ensures { λ r. ⌜ r ≡ readingOf product level ⌝ }
@@ -81,7 +70,7 @@ pub fn reading_of(product: Product, level: u8) -> Reading
 }
 
 // 0 missing, 1 measured.
-pub fn mark_of(reading: Reading) -> u8
+fn mark_of(reading: Reading) -> u8
     ensures { λ m. ⌜ m ≡ markOf reading ⌝ }
 {
     match reading {
@@ -91,7 +80,7 @@ pub fn mark_of(reading: Reading) -> u8
 }
 
 // What a place that held x holds afterwards.
-pub fn held_of(reading: Reading, x: i32) -> i32
+fn held_of(reading: Reading, x: i32) -> i32
     ensures { λ y. ⌜ y ≡ heldOf reading x ⌝ }
 {
     match reading {
@@ -100,14 +89,15 @@ pub fn held_of(reading: Reading, x: i32) -> i32
     }
 }
 
-// A level's kind against a threshold: no number, a value below it, one at or above it.
+// The kinds: no number, a value below the threshold, one at or above it.
 const MISSING: u32 = 0;
 
 const BELOW: u32 = 1;
 
 const REACHED: u32 = 2;
 
-pub fn kind_of(reading: Reading, t: i32) -> u32
+// A reading's kind against a threshold.
+fn kind_of(reading: Reading, t: i32) -> u32
     ensures { λ k. ⌜ k ≡ kindOf reading t ⌝ }
 {
     match reading {

@@ -57,12 +57,10 @@ fn calls(name: &str, file: &[u8]) {
         || polar_sys::bin_value(black_box(file), last, ray, bin, &mut 0.0, &mut [0; 2]),
         || plain::rays::bin_value(black_box(file), last, ray, bin).is_ok(),
     );
-    #[cfg(feature = "stretches")]
     list(&table, file, last, bins * grid.rays);
 }
 
 /// The whole list of a cut in one portion.
-#[cfg(feature = "stretches")]
 fn list(table: &Table, file: &[u8], cut: usize, most: usize) {
     let (mut ours, mut plain) = (vec![0; 4 * most], vec![0; 4 * most]);
     let mut answer = [0; 4];

@@ -1,6 +1,5 @@
 //! The proved library against plain Rust that does the same work and makes the same checks, in one run: least times in
 //! microseconds and their ratio. All buffers are made and written to before the first time is taken.
-#[cfg(feature = "files")]
 mod files;
 #[cfg(feature = "lister")]
 mod lister;
@@ -15,7 +14,6 @@ fn main() {
     if asked("runs") {
         runs::rows();
     }
-    #[cfg(feature = "files")]
     if asked("files") {
         files::rows();
     }

@@ -115,12 +115,7 @@ fn the_header_says_the_same() {
 
 #[test]
 fn the_library_says_the_same() {
-    let library = in_library();
-    assert!(library.contains_key("polar_run_check"));
-    let mut declared = declared();
-    for (name, (kinds, result)) in library {
-        let call = declared.remove(&name).unwrap_or_else(|| panic!("{name} is not declared"));
-        let declared_kinds: Vec<String> = call.arguments.into_iter().map(|(_, kind)| kind).collect();
-        assert_eq!((declared_kinds, call.result), (kinds, result), "{name}");
-    }
+    let kinds = |call: Call| (call.arguments.into_iter().map(|(_, kind)| kind).collect(), call.result);
+    let declared: BTreeMap<String, (Vec<String>, String)> = declared().into_iter().map(|(name, call)| (name, kinds(call))).collect();
+    assert_eq!(declared, in_library());
 }

@@ -1,3 +1,4 @@
+-- The field of section 3.
 use Rattle.layout.specs.Parts.{binsIn}
 use Rattle.rules.specs.Fields.{binsAt}
 use mathlib.Core.Path.{_∙_}

@@ -1,3 +1,4 @@
+-- The part from octet 6 to the end of section 7.
 use Rattle.layout.specs.Parts.{dataAt}
 use Rattle.rules.specs.Fields.{lengthAt}
 use lib.ListN.{take, drop}

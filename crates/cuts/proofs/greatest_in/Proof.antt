@@ -1,3 +1,4 @@
+-- The field of section 5, which a good cut holds to 252.
 use Rattle.cuts.proofs.Places.{greatest-small}
 use native.Mathlib.Omega.{arith}
 use Rattle.layout.specs.Parts.{greatestIn}

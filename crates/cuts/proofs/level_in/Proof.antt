@@ -1,3 +1,4 @@
+-- One bin, read into a row of one.
 use Rattle.cuts.proofs.Places.{few-bins, bin-inside, level-read}
 use Rattle.layout.specs.Parts.{binsIn, raysIn}
 use lib.ListN.{getD}

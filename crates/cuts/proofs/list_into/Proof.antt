@@ -1,3 +1,4 @@
+-- What `list_from` asks and gives, said of a good cut (Places.antt).
 use mir.ValLaws.{toZ-ofZ}
 use mir.Syntax.{w32}
 use Rattle.cuts.proofs.Places.{list-asks, list-gives}

@@ -1,3 +1,4 @@
+-- Each place as the definition has it.
 use Rattle.cuts.specs.After.{cutAfter}
 use Rattle.rules.specs.Fields.{numberAt}
 use borrow.Author.Needs.{needs}

@@ -1,3 +1,4 @@
+-- A ray's bins lie among all bins.
 use Rattle.cuts.proofs.Places.{few-bins, ray-inside}
 use Rattle.cuts.specs.Bins.{binsFrom, rayIn}
 use Rattle.layout.specs.Parts.{binsIn, raysIn}

@@ -1,3 +1,4 @@
+-- The field of section 3.
 use Rattle.layout.specs.Parts.{raysIn}
 use Rattle.rules.specs.Fields.{raysAt}
 use mathlib.Core.Path.{_∙_}

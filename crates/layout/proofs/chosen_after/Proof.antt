@@ -1,3 +1,4 @@
+-- By the two tests.
 use borrow.Author.Tests.{eq-eqb, ne-eqb}
 use borrow.Author.Needs.{needs}
 use Rattle.layout.proofs.chosen_after.Statement.{statement}

@@ -1,3 +1,4 @@
+-- The part that is lent on is the data of the section, and the scan tells whether it gives the bins.
 use Rattle.runs.proofs.Here.{told, missed}
 use Rattle.layout.specs.Parts.{dataAt}
 use Rattle.runs.specs.Run.{gives}

@@ -1,3 +1,4 @@
+-- Inside the file the sum fits; past it the length reads 0.
 use Rattle.rules.specs.Fields.{lengthAt}
 use Rattle.rules.specs.Rules.{field}
 use Rattle.octets.proofs.Laws.{be-past}

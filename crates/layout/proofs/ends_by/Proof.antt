@@ -1,3 +1,4 @@
+-- The difference fits, so the two comparisons say the same.
 use Rattle.rules.proofs.Chains.{leb-same}
 use borrow.Author.Tests.{lt-leb}
 use native.Mathlib.Omega.{arith}

@@ -1,3 +1,4 @@
+-- The test of the definition.
 use Rattle.layout.specs.Checks.{roomForCut}
 use Rattle.rules.specs.Fields.{numberAt}
 use borrow.Author.Needs.{needs}

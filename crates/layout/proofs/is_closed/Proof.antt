@@ -1,3 +1,4 @@
+-- The test of the definition.
 use Rattle.layout.specs.Checks.{closes}
 use borrow.Author.Needs.{needs}
 use Rattle.layout.proofs.is_closed.Statement.{statement}

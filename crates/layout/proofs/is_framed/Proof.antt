@@ -1,3 +1,4 @@
+-- The four tests of the definition.
 use Rattle.layout.specs.Checks.{framed}
 use Rattle.rules.specs.Fields.{lengthAt, numberAt}
 use borrow.Author.Needs.{needs}

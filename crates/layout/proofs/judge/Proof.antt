@@ -1,3 +1,4 @@
+-- By the number of the section.
 use Rattle.layout.specs.Checks.{ownChecks}
 use borrow.Author.Tests.{eq-eqb, ne-eqb}
 use borrow.Author.Needs.{needs}

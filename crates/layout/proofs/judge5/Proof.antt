@@ -1,3 +1,4 @@
+-- The length is tested first, since the table can only be lent where it is right.
 use Rattle.rules.specs.Fields.{lengthAt, countAt}
 use borrow.Author.Tests.{eq-eqb, ne-eqb}
 use denote.Ref.{now}

@@ -1,3 +1,4 @@
+-- The checks as a chain of `unless` are the first that fails.
 use Rattle.values.proofs.Listed.{count-le}
 use Rattle.rules.specs.Fields.{parameterAt}
 use native.Mathlib.Omega.{arith}

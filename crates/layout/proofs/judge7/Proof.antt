@@ -1,3 +1,4 @@
+-- Length, V and data, each with its own way out.
 use Rattle.layout.specs.Parts.{dataAt}
 use Rattle.runs.specs.Run.{gives}
 use Rattle.rules.specs.Fields.{lengthAt, greatestAt}

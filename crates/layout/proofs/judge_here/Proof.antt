@@ -1,3 +1,4 @@
+-- At the end the closing, else framing, then room for a cut, then the section itself; framing gives what the parts of the file ask.
 use Rattle.layout.proofs.Framed.{framed-is}
 use Rattle.layout.proofs.Order.{past-three}
 use Rattle.layout.specs.Walk.{contextIn}

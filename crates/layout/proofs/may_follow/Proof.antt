@@ -1,3 +1,4 @@
+-- The code is the definition.
 use Rattle.layout.specs.Checks.{follows}
 use mathlib.Core.Path.{refl}
 use Rattle.layout.proofs.may_follow.Statement.{statement}

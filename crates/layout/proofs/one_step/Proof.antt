@@ -1,3 +1,4 @@
+-- What the checks come to decides the step (Stepping.antt).
 use Rattle.layout.proofs.Stepping.{step-refused, step-done, step-next}
 use Rattle.layout.proofs.Faults.{fine-framed}
 use Rattle.layout.specs.declared.Step.the-variants.{Next}

@@ -1,3 +1,4 @@
+-- Each field of the state as the definition has it.
 use Rattle.layout.specs.Walk.{past}
 use borrow.Author.Needs.{needs}
 use Rattle.layout.proofs.passed.Statement.{statement}

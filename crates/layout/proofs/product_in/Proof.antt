@@ -1,3 +1,4 @@
+-- What the two callees promise, one after the other.
 use Rattle.layout.specs.Parts.{productOf, productIn}
 use Rattle.rules.specs.Fields.{parameterAt}
 use mathlib.Core.Path.{_∙_, ap}

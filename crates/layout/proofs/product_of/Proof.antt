@@ -1,3 +1,4 @@
+-- By the test.
 use Rattle.layout.specs.Parts.{productOf}
 use borrow.Author.Tests.{eq-eqb, ne-eqb}
 use Rattle.layout.proofs.product_of.Statement.{statement}

@@ -1,3 +1,4 @@
+-- The part that is lent on is the table of the section: the two ways to say its length agree.
 use Rattle.layout.specs.Parts.{tableAt}
 use Rattle.values.specs.Table.{tableRight}
 use Rattle.rules.specs.Fields.{lengthAt}

@@ -1,3 +1,4 @@
+-- By the test.
 use borrow.Author.Needs.{needs}
 use Rattle.layout.proofs.unless.Statement.{statement}
 use Rattle.layout.proofs.unless.Tie as tie

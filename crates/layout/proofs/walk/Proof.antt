@@ -1,3 +1,4 @@
+-- Size, section 0, then the sections: the three ways of `verdict`.
 use Rattle.layout.specs.Verdict.{sized, verdict, answerFor}
 use mathlib.Core.Bool.{and-false}
 use borrow.Author.Tests.{lt-leb, le-leb}

@@ -1,3 +1,4 @@
+-- The loop's invariant is `Along` (Along.antt): the state mirrors the history, and the verdict from here on is the whole verdict.
 use borrow.Author.Needs.{needs}
 use Rattle.layout.proofs.Along.{Along, along-start, along-next, along-done, along-refused, further}
 use native.Mathlib.Omega.{arith}

@@ -2,10 +2,11 @@
 use mathlib.Core.Path.{_≡_, ap, _∙_}
 use Rattle.lines.specs.Text.{headLine}
 use Rattle.lines.proofs.Placing.{named}
-use Rattle.listing.specs.Listing.{threshold, productNumber, headOf}
+use Rattle.listing.specs.Listing.{productNumber, headOf}
 use borrow.Author.Needs.{needs}
 use Rattle.listing.proofs.put_first_line.Statement.{statement}
 use Rattle.listing.proofs.put_first_line.Tie as tie
+use Rattle.stretches.specs.Call.{houseThreshold}
 
 product-in-requires : tie.Need-product-in-requires
 product-in-requires c κs = search needs
@@ -34,7 +35,7 @@ returns c = let s = c .before .before .before .before .before .before .before .b
     let n = c .before .before .before .before .before .before .product-number .ensures ∙ ap productNumber (c .before .before .before .before .before .before .before .product-in .ensures) in
     let b = c .before .before .before .before .before .bins-in .ensures in
     let r = c .before .before .before .before .rays-in .ensures in
-    named (λ i. headLine (s .args .t .number) (n i) (b i) (r i) threshold) (c .before .before .put-head .ensures)
+    named (λ i. headLine (s .args .t .number) (n i) (b i) (r i) houseThreshold) (c .before .before .put-head .ensures)
 
 pub put-first-line-spec : {M : Type 1} → statement M
 put-first-line-spec =

@@ -1,3 +1,4 @@
+-- What the two callees promise, one after the other.
 use mathlib.Core.Path.{_∙_, ap}
 use mir.Syntax.{w32}
 use mir.ValLaws.{toZ-ofZ}

@@ -1,3 +1,4 @@
+-- By cases on the reading.
 use Rattle.fraction.specs.Quotient.{hundredths}
 use mir.ValLaws.{toZ-ofZ}
 use mir.Syntax.{w32}

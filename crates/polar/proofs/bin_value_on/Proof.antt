@@ -1,3 +1,4 @@
+-- A law for each way out (Answering.antt).
 use Rattle.values.specs.Published.{levelCount}
 use Rattle.polar.proofs.Answering.{bin-ray-none, bin-none, bin-is}
 use Rattle.polar.specs.Rays.{binOf}

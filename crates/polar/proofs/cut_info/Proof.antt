@@ -1,3 +1,4 @@
+-- By what the walk answers (OnCut.antt).
 use Rattle.polar.proofs.OnCut.{on-some, on-none, on-bad}
 use Rattle.polar.specs.Opening.{cutAnswer}
 use Rattle.polar.specs.declared.CutAnswer.the-variants.{Cut}

@@ -1,3 +1,4 @@
+-- By the test for 0xFFFF.
 use Rattle.polar.specs.Opening.{elevationOf}
 use Rattle.polar.specs.declared.Elevation.the-variants.{Hundredths}
 use mir.ValLaws.{toZ-ofZ}

@@ -1,3 +1,4 @@
+-- Field by field.
 use Rattle.polar.specs.Opening.{infoOf}
 use Rattle.rules.specs.Fields.{binsAt, raysAt}
 use mir.ValLaws.{toZ-ofZ}

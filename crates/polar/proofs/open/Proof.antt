@@ -1,3 +1,4 @@
+-- By what the walk answers (OnCut.antt).
 use Rattle.polar.proofs.OnCut.{opened-found, opened-bad}
 use Rattle.polar.specs.Opening.{openAnswer}
 use Rattle.polar.specs.declared.Opened.the-variants.{File}

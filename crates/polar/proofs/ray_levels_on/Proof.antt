@@ -1,3 +1,4 @@
+-- A law for each way out (Answering.antt).
 use Rattle.polar.proofs.Answering.{ray-none, ray-short, ray-fits}
 use lib.ListN.{length}
 use denote.Ref.{now}

@@ -1,3 +1,4 @@
+-- A law for each way out (Answering.antt); the levels at the front of the marks are converted in place.
 use Rattle.polar.proofs.Answering.{ray-none, ray-short, ray-fits, out-long, levels-fit, marks-are, values-are}
 use Rattle.polar.proofs.Answering.{ray-none, ray-short, ray-fits, levels-fit, marks-are, values-are}
 use lib.ListN.{length}

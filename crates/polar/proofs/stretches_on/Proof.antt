@@ -1,3 +1,4 @@
+-- A law for each way out (Answering.antt).
 use Rattle.polar.specs.declared.StretchAnswer.the-variants.{Listed}
 use Rattle.cuts.specs.Bins.{stretchesIn}
 use Rattle.layout.specs.Parts.{raysIn}

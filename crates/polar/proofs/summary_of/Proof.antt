@@ -1,3 +1,4 @@
+-- Field by field.
 use Rattle.rules.specs.Fields.{siteAt}
 use borrow.Author.Needs.{needs}
 use Rattle.polar.proofs.summary_of.Statement.{statement}

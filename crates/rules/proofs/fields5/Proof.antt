@@ -1,3 +1,4 @@
+-- One `both` for each rule; `flat` turns the chain that the code tests into the list of rules.
 use mathlib.Core.Bool.{true}
 use Rattle.rules.specs.Rules.{rules5}
 use borrow.Author.Needs.{needs}

@@ -1,3 +1,4 @@
+-- The remainder by the sign bit is the magnitude.
 use borrow.Author.Needs.{needs}
 use Rattle.rules.specs.Rules.{meets}
 use Rattle.rules.proofs.magnitude32.Statement.{statement}

@@ -1,3 +1,4 @@
+-- One rule or the other, as the code tests them.
 use borrow.Author.Needs.{needs}
 use Rattle.rules.specs.Rules.{meets}
 use Rattle.rules.proofs.Chains.{one-of}

@@ -1,3 +1,4 @@
+-- A product of two numbers below 2^32 fits 64 bits; it is Nb x Nr.
 use native.Mathlib.Omega.{arith}
 use Rattle.rules.specs.Fields.{pointsAt, binsAt, raysAt}
 use Rattle.rules.proofs.Chains.{below}

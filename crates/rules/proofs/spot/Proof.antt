@@ -1,3 +1,4 @@
+-- A place that reads as octet k does: inside the file it is that octet, past the file every octet reads 0.
 use borrow.Author.Needs.{needs}
 use mathlib.Core.Path.{refl, sym, ap, _∙_}
 use Prim.Native.Nat.{ℕ, _+_, _-_}

@@ -1,0 +1,193 @@
+-- DEMAND 3. For an accepted file, any cut of it and any permitted threshold, the stretch list holds every longest stretch of one kind on each ray, each
+-- exactly once, by ray and then by first bin, and nothing else; the kinds are those of demand 2's bins. Fetched in portions from the first bin, with
+-- room for an entry each time and each next point handed back, the portions joined are that list, and the fetching ends.
+-- The idea: a call hands over the front of the list from its point, and the list from the next point is what it left.
+use Prim.Native.Nat.{ℕ, suc, _+_, _-_, _*_, _/_, _≤_, _<_}
+use mathlib.Core.Path.{_≡_, refl, sym, _∙_, ap, subst}
+use mathlib.Core.List.{List, [], _∷_, _++_, append-assoc, append-nil}
+use mathlib.Core.Bool.{Bool, true, false, cond, _&&_}
+use native.Mathlib.Omega.{arith}
+use borrow.Author.Tests.{le-ltb, ltb-false}
+use lib.Dec.{ltb}
+use lib.ListN.{length, getD, take, drop, length-drop, take-append-drop}
+use lib.Seq.{take-at}
+use lib.IntN.{ℤ}
+use Rattle.runs.specs.Lent.{front}
+use Rattle.layout.specs.Parts.{dataAt, productIn, binsIn, raysIn, greatestIn, levelsIn, levelIn}
+use Rattle.layout.specs.Verdict.{noCut}
+use Rattle.layout.specs.Accepted.{Accepted}
+use Rattle.layout.specs.declared.Cut.{Cut}
+use Rattle.layout.proofs.GoodCuts.{good-accepted}
+use Rattle.stretches.specs.Stretch.{Entry, perEntry, wordsOf}
+use Rattle.stretches.specs.Meaning.{IsStretch, IsList, Wanted}
+use Rattle.stretches.specs.Call.{scaleOf, listed, fitting, answerOf, outOf, rightT, rightPoint}
+use Rattle.stretches.specs.declared.Listing.{Listing}
+use Rattle.stretches.proofs.Meaning.{one-list, is-list, list-right}
+use Rattle.stretches.proofs.Portions.{from-start, from-end, from-next, next-end, next-right}
+use Rattle.stretches.proofs.Answers.{count-is, words-front}
+use Rattle.stretches.proofs.Laws.{length-words, words-same}
+use Rattle.cuts.specs.Bins.{stretchesIn}
+use Rattle.polar.specs.Stretching.{stretchesOn, stretchAnswer, wordsAfter}
+use Rattle.polar.specs.declared.StretchAnswer.{StretchAnswer}
+use Rattle.polar.specs.declared.StretchAnswer.the-variants as S
+use Rattle.polar.specs.declared.FillRefusal.the-variants as F
+use Rattle.demands.specs.Promises.{StretchesPromise}
+use Rattle.demands.specs.Fetching.{Fetched, none, call}
+use Rattle.demands.proofs.Demand2.{on-accepted, cut-is}
+
+module _ (s : List ℕ) (cs : List Cut) (a : Accepted s cs) (i : ℕ) (lt : i < length cs) (t : ℤ) where
+  -- the cut, and its list from a point on
+  abbrev pub listOf : ℕ → ℕ → List Entry
+  listOf ray bin = stretchesIn s (getD cs i noCut) t ray bin
+
+  some-bins : 0 < binsIn s (getD cs i noCut)
+  some-bins = good-accepted s cs a i lt .bins-some
+
+  -- ── the list is the list of the longest stretches, and only one list is ──
+
+  pub whole-list : IsList (IsStretch (scaleOf (productIn s (getD cs i noCut)) t) (levelIn s (getD cs i noCut)) (binsIn s (getD cs i noCut)) (raysIn s (getD cs i noCut))) (listOf 0 0)
+  unfolding stretchesIn levelIn levelsIn
+  whole-list =
+      let c = getD cs i noCut in
+      let sc = scaleOf (productIn s c) t in
+      subst (IsList (IsStretch sc (levelIn s c) (binsIn s c) (raysIn s c)))
+      (sym (from-start sc (greatestIn s c) (dataAt s (c .section7)) (binsIn s c) (raysIn s c)))
+      (is-list sc (levelsIn s c) (binsIn s c) some-bins (raysIn s c))
+
+  pub only-list : (l : List Entry)
+      → IsList (IsStretch (scaleOf (productIn s (getD cs i noCut)) t) (levelIn s (getD cs i noCut)) (binsIn s (getD cs i noCut)) (raysIn s (getD cs i noCut))) l
+      → l ≡ listOf 0 0
+  only-list l k = one-list _ l (listOf 0 0) k whole-list
+
+  -- from any point that may be asked for: the part of it that starts at or past the point
+  pub part-list : (ray bin : ℕ) → rightPoint (binsIn s (getD cs i noCut)) (raysIn s (getD cs i noCut)) ray bin ≡ true
+      → IsList (Wanted (scaleOf (productIn s (getD cs i noCut)) t) (levelIn s (getD cs i noCut)) (binsIn s (getD cs i noCut)) (raysIn s (getD cs i noCut)) ray bin) (listOf ray bin)
+  unfolding stretchesIn levelIn levelsIn
+  part-list ray bin h =
+      let c = getD cs i noCut in
+      list-right (scaleOf (productIn s c) t) (greatestIn s c) (dataAt s (c .section7)) (binsIn s c) (raysIn s c) ray bin some-bins h
+
+  -- ── the call ──
+
+  pub call-lists : rightT t ≡ true → (ray bin : ℕ) → rightPoint (binsIn s (getD cs i noCut)) (raysIn s (getD cs i noCut)) ray bin ≡ true
+      → (words words′ : List ℕ) (r : StretchAnswer) → perEntry ≤ length words → StretchesPromise s i t ray bin words r words′
+      → (r ≡ S.Listed (answerOf (raysIn s (getD cs i noCut)) (length words) (listOf ray bin)))
+      × (words′ ≡ front (wordsOf (fitting (length words) (listOf ray bin))) words)
+  unfolding stretchAnswer stretchesOn wordsAfter
+  call-lists ht ray bin hp words words′ r room p =
+      let c = getD cs i noCut in
+      let e : r ≡ S.Listed (answerOf (raysIn s c) (length words) (listOf ray bin)) =
+      p .answer ∙ on-accepted s cs a i lt _ _ _ ∙ rw (ht, hp, le-ltb (length words) 4 room) in (
+        e,
+        p .after
+            ∙ ap (λ (x : StretchAnswer). wordsAfter x s i t ray bin words) e
+            ∙ ap (λ (x : Cut). outOf words (stretchesIn s x t ray bin)) (cut-is s cs a i lt)
+            ∙ words-front words (listOf ray bin),
+      )
+
+  -- the point that it hands back may be asked for next
+  pub next-asked : (ray bin n : ℕ)
+      → rightPoint (binsIn s (getD cs i noCut)) (raysIn s (getD cs i noCut)) (answerOf (raysIn s (getD cs i noCut)) n (listOf ray bin) .ray) (answerOf (raysIn s (getD cs i noCut)) n (listOf ray bin) .bin) ≡ true
+  unfolding stretchesIn
+  next-asked ray bin n =
+      let c = getD cs i noCut in
+      next-right (scaleOf (productIn s c) t) (greatestIn s c) (dataAt s (c .section7)) (binsIn s c) (raysIn s c) (record { ray = ray; bin = bin }) n some-bins
+
+  -- ── portions ──
+
+  -- what a call that lists says of its room and its list
+  record Listing-is (ray bin : ℕ) (words words′ : List ℕ) (l : Listing) : Type 0 where
+    pub room : perEntry ≤ length words
+    pub answer : l ≡ answerOf (raysIn s (getD cs i noCut)) (length words) (listOf ray bin)
+    pub after : words′ ≡ front (wordsOf (fitting (length words) (listOf ray bin))) words
+
+  listing-is : (ray bin : ℕ) (words words′ : List ℕ) (l : Listing) → StretchesPromise s i t ray bin words (S.Listed l) words′ → Listing-is ray bin words words′ l
+  unfolding stretchAnswer stretchesOn wordsAfter
+  listing-is ray bin words words′ l p =
+      let c = getD cs i noCut in
+      go (rightT t && rightPoint (binsIn s c) (raysIn s c) ray bin) (ltb (length words) perEntry) refl (p .answer ∙ on-accepted s cs a i lt _ _ _)
+    where
+      go : (b u : Bool) → ltb (length words) perEntry ≡ u
+          → S.Listed l ≡ cond b (cond u (S.Refused F.Room) (S.Listed (answerOf (raysIn s (getD cs i noCut)) (length words) (stretchesIn s (getD cs i noCut) t ray bin)))) (S.Refused F.Argument)
+          → Listing-is ray bin words words′ l
+      go true false e h =
+          record {
+            room = ltb-false _ _ e;
+            answer = cc h;
+            after =
+                p .after
+                ∙ ap (λ (x : Cut). outOf words (stretchesIn s x t ray bin)) (cut-is s cs a i lt)
+                ∙ words-front words (listOf ray bin);
+          }
+      go true true e h = let z : _≡_ {A = ℕ} 0 1 = cc h in absurd (omega arith)
+      go false u e h = let z : _≡_ {A = ℕ} 0 1 = cc h in absurd (omega arith)
+
+  -- the entries that a call hands over are the front of its list
+  handed : (ray bin : ℕ) (words words′ : List ℕ) (l : Listing) (es : List Entry) → Listing-is ray bin words words′ l
+      → wordsOf es ≡ take (perEntry * l .count) words′ → es ≡ fitting (length words) (listOf ray bin)
+  handed ray bin words words′ l es k h =
+      let fs = fitting (length words) (listOf ray bin) in
+      let n : l .count ≡ length fs = ap (λ (x : Listing). x .count) (k .answer) ∙ count-is (raysIn s (getD cs i noCut)) (length words) (listOf ray bin) in
+      let len = length-words fs in
+      words-same es fs
+      (h ∙ (λ j. take (perEntry * n j) (k .after j)) ∙ take-at (wordsOf fs) (drop (length (wordsOf fs)) words) (perEntry * length fs) len)
+
+  left-over : (ray bin n : ℕ)
+      → listOf (answerOf (raysIn s (getD cs i noCut)) n (listOf ray bin) .ray) (answerOf (raysIn s (getD cs i noCut)) n (listOf ray bin) .bin) ≡ drop (n / perEntry) (listOf ray bin)
+  unfolding stretchesIn
+  left-over ray bin n =
+      let c = getD cs i noCut in
+      from-next (scaleOf (productIn s c) t) (greatestIn s c) (dataAt s (c .section7)) (binsIn s c) (raysIn s c) (record { ray = ray; bin = bin }) n
+
+  -- what was handed over, and then what is left, is what was to be listed
+  pub fetched-rest : (n ray bin ray′ bin′ : ℕ) (es : List Entry) → Fetched s i t n ray bin es ray′ bin′ → es ++ listOf ray′ bin′ ≡ listOf ray bin
+  fetched-rest n ray bin ray′ bin′ es none = refl
+  fetched-rest n ray bin ray′ bin′ all (call {n = m} {words = words} {words′ = words′} {l = l} {fs = fs} es p h f) =
+      let k = listing-is ray bin words words′ l p in
+      let L = listOf ray bin in
+      append-assoc es fs (listOf ray′ bin′)
+      ∙ (λ j. handed ray bin words words′ l es k h j ++ fetched-rest m (l .ray) (l .bin) ray′ bin′ fs f j)
+      ∙ ap (λ (x : Listing). fitting (length words) L ++ listOf (x .ray) (x .bin)) (k .answer)
+      ∙ ap (λ (x : List Entry). fitting (length words) L ++ x) (left-over ray bin (length words))
+      ∙ take-append-drop (length words / perEntry) L
+
+  -- fetched from (0, 0) until (Nr, 0): the portions joined are the whole list
+  pub fetched-all : (n : ℕ) (es : List Entry) → Fetched s i t n 0 0 es (raysIn s (getD cs i noCut)) 0 → es ≡ listOf 0 0
+  unfolding stretchesIn
+  fetched-all n es f =
+      let c = getD cs i noCut in
+      let z = from-end (scaleOf (productIn s c) t) (greatestIn s c) (dataAt s (c .section7)) (binsIn s c) (raysIn s c) in
+      sym (append-nil es) ∙ ap (λ (x : List Entry). es ++ x) (sym z) ∙ fetched-rest n 0 0 (raysIn s c) 0 es f
+
+  -- the fetching ends: each call takes one entry at least, and with nothing left the point is (Nr, 0)
+  fewer-left : (n ray bin ray′ bin′ : ℕ) (es : List Entry) → Fetched s i t n ray bin es ray′ bin′ → length (listOf ray′ bin′) ≤ length (listOf ray bin) - n
+  fewer-left n ray bin ray′ bin′ es none = omega arith
+  fewer-left n ray bin ray′ bin′ all (call {n = m} {words = words} {words′ = words′} {l = l} {fs = fs} es p h f) =
+      let k = listing-is ray bin words words′ l p in
+      let room = k .room in
+      let e = ap (λ (x : Listing). length (listOf (x .ray) (x .bin))) (k .answer) ∙ ap length (left-over ray bin (length words)) ∙ length-drop (length words / perEntry) (listOf ray bin) in
+      omega (arith, fewer-left m (l .ray) (l .bin) ray′ bin′ fs f, e)
+
+  last-point : (n ray bin ray′ bin′ : ℕ) (es : List Entry) → Fetched s i t (suc n) ray bin es ray′ bin′ → listOf ray′ bin′ ≡ []
+      → (ray′ ≡ raysIn s (getD cs i noCut)) × (bin′ ≡ 0)
+  unfolding stretchesIn
+  last-point n ray bin ray′ bin′ all (call {words = words} {words′ = words′} {l = l} es p h none) z =
+      let c = getD cs i noCut in
+      let k = listing-is ray bin words words′ l p in
+      let y = ap (λ (x : Listing). listOf (x .ray) (x .bin)) (sym (k .answer)) ∙ z in
+      let e = next-end (scaleOf (productIn s c) t) (greatestIn s c) (dataAt s (c .section7)) (binsIn s c) (raysIn s c) (record { ray = ray; bin = bin }) (length words) y in
+      (ap (λ (x : Listing). x .ray) (k .answer) ∙ ap (λ q. q .ray) e, ap (λ (x : Listing). x .bin) (k .answer) ∙ ap (λ q. q .bin) e)
+  last-point n ray bin ray′ bin′ all (call {l = l} ds p h (call {n = m} {fs = fs} es p' h' f)) z =
+      last-point m (l .ray) (l .bin) ray′ bin′ (es ++ fs) (call es p' h' f) z
+
+  -- after as many calls as the list has entries, and one at least, the point is (Nr, 0) and all is fetched
+  pub fetching-ends : (n ray′ bin′ : ℕ) (es : List Entry) → Fetched s i t (suc n) 0 0 es ray′ bin′ → length (listOf 0 0) ≤ suc n
+      → (ray′ ≡ raysIn s (getD cs i noCut)) × (bin′ ≡ 0) × (es ≡ listOf 0 0)
+  fetching-ends n ray′ bin′ es f h =
+      let z = nothing (listOf ray′ bin′) (omega (arith, fewer-left (suc n) 0 0 ray′ bin′ es f)) in
+      let e = last-point n 0 0 ray′ bin′ es f z in
+      (e .0, e .1, sym (append-nil es) ∙ ap (λ (x : List Entry). es ++ x) (sym z) ∙ fetched-rest (suc n) 0 0 ray′ bin′ es f)
+    where
+      nothing : (x : List Entry) → length x ≡ 0 → x ≡ []
+      nothing [] g = refl
+      nothing (y ∷ ys) g = absurd (omega arith)

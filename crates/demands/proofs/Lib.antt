@@ -1,0 +1,5 @@
+pub mod Determined
+pub mod Demand1
+pub mod Lent
+pub mod Demand2
+pub mod Demand3

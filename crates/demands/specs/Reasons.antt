@@ -1,0 +1,26 @@
+-- Why a call refuses, by document 01's order: the file's own refusal; then 10 for the cut, or another argument; then 11 for room.
+use Prim.Native.Nat.{ℕ, _≤_, _<_}
+use mathlib.Core.List.{List}
+use lib.ListN.{length, getD}
+use Rattle.layout.specs.Verdict.{noCut}
+use Rattle.layout.specs.Accepted.{Accepted}
+use Rattle.layout.specs.Refused.{RefusedBy}
+use Rattle.layout.specs.declared.Cut.{Cut}
+use Rattle.layout.specs.declared.FileRefusal.{FileRefusal}
+use Rattle.polar.specs.declared.AskRefusal.{AskRefusal}
+use Rattle.polar.specs.declared.AskRefusal.the-variants as A
+use Rattle.polar.specs.declared.FillRefusal.{FillRefusal}
+use Rattle.polar.specs.declared.FillRefusal.the-variants as F
+
+-- a call that fills nothing; `Wrong c` says that an argument other than the cut's number is outside its range
+pub data AskReason (s : List ℕ) (i : ℕ) (Wrong : Cut → Type 0) : AskRefusal → Type 0 where
+  by-file : {r : FileRefusal} → RefusedBy s r → AskReason s i Wrong (A.File r)
+  by-cut : {cs : List Cut} → Accepted s cs → length cs ≤ i → AskReason s i Wrong A.Argument
+  by-argument : {cs : List Cut} → Accepted s cs → i < length cs → Wrong (getD cs i noCut) → AskReason s i Wrong A.Argument
+
+-- a call that fills lent memory; `Short c` says that there is too little room
+pub data FillReason (s : List ℕ) (i : ℕ) (Wrong Short : Cut → Type 0) : FillRefusal → Type 0 where
+  by-file : {r : FileRefusal} → RefusedBy s r → FillReason s i Wrong Short (F.File r)
+  by-cut : {cs : List Cut} → Accepted s cs → length cs ≤ i → FillReason s i Wrong Short F.Argument
+  by-argument : {cs : List Cut} → Accepted s cs → i < length cs → Wrong (getD cs i noCut) → FillReason s i Wrong Short F.Argument
+  by-room : {cs : List Cut} → Accepted s cs → i < length cs → (Wrong (getD cs i noCut) → ⊥) → Short (getD cs i noCut) → FillReason s i Wrong Short F.Room

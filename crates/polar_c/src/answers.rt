@@ -1,0 +1,141 @@
+// How each answer of a file call goes out: the number returned, and the words of the lent answer. One function to an answer.
+ghost use mathlib.Core.Path.{_≡_};
+ghost use lib.Seq.{sets};
+ghost use Rattle.polar_c.specs.Files.{productNumber, openNumber, openWords, elevationWords, infoWords, rayNumber, rayWords, binNumber, binWords, binHeld, stretchNumber, stretchWords};
+use polar::BinAnswer;
+use polar::CutInfo;
+use polar::Elevation;
+use polar::Opened;
+use polar::RayAnswer;
+use polar::StretchAnswer;
+use values::Product;
+
+fn product_number(product: Product) -> u64
+    ensures { λ r. ⌜ r ≡ productNumber product ⌝ }
+{
+    match product {
+        Product::Reflectivity => 1,
+        Product::Velocity => 2,
+    }
+}
+
+// place, product, year, month, day, hour, minute, second, site, number of cuts
+pub fn tell_open(told: Opened, answer: &mut [u64; 10]) -> u32
+    ensures { λ r. ⌜ r ≡ openNumber told ⌝ }
+    ensures { λ r. ⌜ now (answer .exit) ≡ openWords told (now (answer .entry)) ⌝ }
+{
+    match told {
+        Opened::File(f) => {
+            let product = f.product;
+            answer[0] = 0;
+            answer[1] = product_number(product);
+            answer[2] = f.year as u64;
+            answer[3] = f.month as u64;
+            answer[4] = f.day as u64;
+            answer[5] = f.hour as u64;
+            answer[6] = f.minute as u64;
+            answer[7] = f.second as u64;
+            answer[8] = f.site as u64;
+            answer[9] = f.cuts as u64;
+            0
+        }
+        Opened::Refused(why) => {
+            answer[0] = crate::refusals::file_place(why);
+            crate::refusals::file_number(why)
+        }
+    }
+}
+
+// whether the elevation is known, and the elevation where it is
+fn tell_elevation(elevation: Elevation, answer: &mut [i64; 11])
+    ensures { λ r. ⌜ now (answer .exit) ≡ sets (now (answer .entry)) 9 (elevationWords elevation) ⌝ }
+{
+    match elevation {
+        Elevation::Missing => {
+            answer[9] = 0;
+        }
+        Elevation::Hundredths(z) => {
+            answer[9] = 1;
+            answer[10] = z as i64;
+        }
+    }
+}
+
+// place, Nb, Nr, latitude, longitude, Dx, Dstart, start azimuth, octet 38, elevation
+pub fn tell_info(info: CutInfo, answer: &mut [i64; 11])
+    ensures { λ r. ⌜ now (answer .exit) ≡ sets (now (answer .entry)) 0 (infoWords info) ⌝ }
+{
+    let elevation = info.elevation;
+    answer[0] = 0;
+    answer[1] = info.nb as i64;
+    answer[2] = info.nr as i64;
+    answer[3] = info.latitude as i64;
+    answer[4] = info.longitude as i64;
+    answer[5] = info.dx as i64;
+    answer[6] = info.dstart as i64;
+    answer[7] = info.start_azimuth as i64;
+    answer[8] = info.octet38 as i64;
+    tell_elevation(elevation, answer);
+}
+
+// of both ray calls: place
+pub fn tell_ray(told: RayAnswer, place: &mut [u64; 1]) -> u32
+    ensures { λ r. ⌜ r ≡ rayNumber told ⌝ }
+    ensures { λ r. ⌜ now (place .exit) ≡ rayWords told (now (place .entry)) ⌝ }
+{
+    match told {
+        RayAnswer::Written => {
+            place[0] = 0;
+            0
+        }
+        RayAnswer::Refused(why) => {
+            place[0] = crate::refusals::fill_place(why);
+            crate::refusals::fill_number(why)
+        }
+    }
+}
+
+// place, mark; the value goes to a float of its own
+pub fn tell_bin(told: BinAnswer, value: &mut f64, answer: &mut [u64; 2]) -> u32
+    ensures { λ r. ⌜ r ≡ binNumber told ⌝ }
+    ensures { λ r. ⌜ now (value .exit) ≡ binHeld told (now (value .entry)) ⌝ }
+    ensures { λ r. ⌜ now (answer .exit) ≡ binWords told (now (answer .entry)) ⌝ }
+{
+    match told {
+        BinAnswer::Missing => {
+            answer[0] = 0;
+            answer[1] = 0;
+            0
+        }
+        BinAnswer::Value(x) => {
+            *value = x;
+            answer[0] = 0;
+            answer[1] = 1;
+            0
+        }
+        BinAnswer::Refused(why) => {
+            answer[0] = crate::refusals::ask_place(why);
+            crate::refusals::ask_number(why)
+        }
+    }
+}
+
+// place, count of entries, the next point's ray and bin
+pub fn tell_stretches(told: StretchAnswer, answer: &mut [u64; 4]) -> u32
+    ensures { λ r. ⌜ r ≡ stretchNumber told ⌝ }
+    ensures { λ r. ⌜ now (answer .exit) ≡ stretchWords told (now (answer .entry)) ⌝ }
+{
+    match told {
+        StretchAnswer::Listed(l) => {
+            answer[0] = 0;
+            answer[1] = l.count as u64;
+            answer[2] = l.ray as u64;
+            answer[3] = l.bin as u64;
+            0
+        }
+        StretchAnswer::Refused(why) => {
+            answer[0] = crate::refusals::fill_place(why);
+            crate::refusals::fill_number(why)
+        }
+    }
+}
