@@ -1,7 +1,6 @@
 //! The proved library against plain Rust that does the same work and makes the same checks, in one run: least times in
 //! microseconds and their ratio. All buffers are made and written to before the first time is taken.
 mod files;
-#[cfg(feature = "lister")]
 mod lister;
 mod runs;
 mod timing;
@@ -17,7 +16,6 @@ fn main() {
     if asked("files") {
         files::rows();
     }
-    #[cfg(feature = "lister")]
     if asked("lister") {
         lister::rows();
     }

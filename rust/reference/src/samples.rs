@@ -58,27 +58,18 @@ fn listed() -> BTreeMap<String, Vec<u8>> {
     files
 }
 
-/// Everything stored, by its path from the top. Only the given program crates have their files written.
-pub fn all(crates: &[&str]) -> Files {
+/// Everything stored, by its path from the top.
+pub fn all() -> Files {
     let mut files: Files = shown().into_iter().map(|(name, file)| (Path::new("samples").join(name), file)).collect();
-    if crates.contains(&"lister") {
-        let sample = document_sample().file();
-        files.insert("crates/lister/stdout".into(), lister::text(&sample).into());
-        files.insert("crates/lister/stdin".into(), sample);
-    }
-    if crates.contains(&"samples") {
-        let listed = listed();
-        let text = listed.iter().map(|(name, file)| format!("{name}\n{}", lister::text(file))).collect::<String>();
-        files.insert("crates/samples/args".into(), listed.keys().map(|name| format!("{name}\n")).collect::<String>().into());
-        files.insert("crates/samples/stdout".into(), text.into());
-        files.extend(listed.into_iter().map(|(name, file)| (Path::new("crates/samples/data").join(name), file)));
-    }
+    let sample = document_sample().file();
+    files.insert("crates/lister/stdout".into(), lister::text(&sample).into());
+    files.insert("crates/lister/stdin".into(), sample);
+    let listed = listed();
+    let text = listed.iter().map(|(name, file)| format!("{name}\n{}", lister::text(file))).collect::<String>();
+    files.insert("crates/samples/args".into(), listed.keys().map(|name| format!("{name}\n")).collect::<String>().into());
+    files.insert("crates/samples/stdout".into(), text.into());
+    files.extend(listed.into_iter().map(|(name, file)| (Path::new("crates/samples/data").join(name), file)));
     files
-}
-
-/// The program crates that are there.
-pub fn program_crates(top: &Path) -> Vec<&'static str> {
-    ["lister", "samples"].into_iter().filter(|name| top.join("crates").join(name).join("src").is_dir()).collect()
 }
 
 /// The top of the repository.
@@ -92,7 +83,7 @@ pub fn write() -> io::Result<()> {
     if data.exists() {
         fs::remove_dir_all(data)?;
     }
-    for (path, octets) in all(&program_crates(&top)) {
+    for (path, octets) in all() {
         let path = top.join(path);
         fs::create_dir_all(path.parent().expect("a folder"))?;
         fs::write(path, octets)?;

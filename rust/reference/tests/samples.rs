@@ -1,5 +1,5 @@
 //! What is stored is what this reader makes. Where it is not: `cargo run --bin make-samples`.
-use reference::samples::{all, program_crates, top};
+use reference::samples::{all, top};
 use std::collections::BTreeSet;
 use std::fs;
 use std::path::PathBuf;
@@ -7,7 +7,7 @@ use std::path::PathBuf;
 #[test]
 fn stored_files_are_those_made_here() {
     let top = top();
-    let made = all(&program_crates(&top));
+    let made = all();
     for (path, octets) in &made {
         let stored = fs::read(top.join(path)).unwrap_or_else(|why| panic!("{}: {why}", path.display()));
         assert!(stored == *octets, "{} differs: cargo run --bin make-samples", path.display());
