@@ -158,7 +158,15 @@ fn put_first_line(file: &[u8], t: Turn, text: &mut [u8], at: usize) -> usize
     let product = product_number(layout::product_in(file, cut));
     let bins = cuts::bins_in(file, cut);
     let rays = cuts::rays_in(file, cut);
-    lines::put_head(text, at, t.number, product, bins, rays, stretches::HOUSE as usize)
+    lines::put_head(
+        text,
+        at,
+        t.number,
+        product,
+        bins,
+        rays,
+        stretches::HOUSE as usize,
+    )
 }
 
 // Past the entries of a listing: more of the same cut, the next cut, or the end.
