@@ -1,5 +1,5 @@
 -- Texts put one after the other are their whole, put where the first is.
-use Prim.Native.Nat.{ℕ, suc, _+_, _/_, _%_, _≤_, _<_}
+use Prim.Native.Nat.{ℕ, _+_, _/_, _%_, _≤_, _<_}
 use mathlib.Core.Path.{_≡_, sym, ap, subst, _∙_}
 use mathlib.Core.List.{List, [], _∷_, _++_, append-assoc}
 use native.Mathlib.Numerals.{add-one}
@@ -10,7 +10,7 @@ use Rattle.runs.specs.Lent.{placed}
 use Rattle.runs.proofs.Lent.{placed-none, placed-more, length-placed, placed-set, first-put}
 use Rattle.lines.specs.Put.{Put}
 use Rattle.lines.specs.Text.{digit, decimal}
-use Rattle.lines.proofs.Decimal.{decimal-one, decimal-more, decimal-longer, decimal-some}
+use Rattle.lines.proofs.Decimal.{decimal-one, decimal-more, decimal-longer}
 
 -- one octet more of s
 pub one-more : (d s : List ℕ) (at i : ℕ) → i < length s → at + length s ≤ length d → set (placed d at (take i s)) (at + i) (getD s i 0) ≡ placed d at (take (i + 1) s)

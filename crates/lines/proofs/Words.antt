@@ -3,10 +3,9 @@ use Prim.Native.Nat.{ℕ, zero, suc, _+_, _-_, _*_, _/_, _≤_}
 use mathlib.Core.Path.{_≡_, refl, sym, ap, _∙_}
 use mathlib.Core.List.{List, [], _∷_, _++_, append-assoc}
 use native.Mathlib.Nat.{add-zero}
-use native.Mathlib.Numerals.{add-one}
 use native.Mathlib.Omega.{arith}
 use lib.ListN.{length, getD, take, drop, length-append, length-take}
-use lib.Seq.{sets, sets-eq, getD-append-add}
+use lib.Seq.{sets-eq, getD-append-add}
 use Rattle.stretches.specs.Stretch.{Entry, perEntry, words, wordsOf}
 use Rattle.stretches.specs.Call.{fitting, outOf}
 use Rattle.stretches.proofs.Laws.{length-words}

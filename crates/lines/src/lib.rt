@@ -6,7 +6,7 @@ ghost use mathlib.Core.List.{_++_};
 ghost use Prim.Native.Nat.{_+_, _*_, _≤_};
 ghost use lib.ListN.{length};
 ghost use Rattle.stretches.specs.Stretch.{perEntry};
-ghost use Rattle.lines.specs.Put.{Put};
+ghost use Rattle.lines.specs.Put.{Put, entryRoom, lineRoom};
 ghost use Rattle.lines.specs.Text.{decimal, kindWord, newline, entryLine, entryLines, headLine, refusedLine, endLine};
 ghost use Rattle.lines.specs.Words.{entryIn, entriesIn};
 
@@ -68,9 +68,9 @@ fn put_kind(out: &mut [u8], at: usize, kind: u32) -> usize
 
 // The line of entry i of the words.
 fn put_entry(out: &mut [u8], at: usize, words: &[u32], i: usize) -> usize
-    requires { ⌜ (perEntry * i + perEntry ≤ length (now words)) × (at + 82 ≤ length (now out)) ⌝ }
+    requires { ⌜ (perEntry * i + perEntry ≤ length (now words)) × (at + entryRoom ≤ length (now out)) ⌝ }
     ensures { λ r. ⌜ Put (now (out .entry)) at (entryLine (entryIn (now (words .entry)) i)) (now (out .exit)) r ⌝ }
-    ensures { λ r. ⌜ r ≤ at + 82 ⌝ }
+    ensures { λ r. ⌜ r ≤ at + entryRoom ⌝ }
 {
     let k = 4 * i;
     let a = put_named(out, at, b"", wide(words[k]));
@@ -81,7 +81,7 @@ fn put_entry(out: &mut [u8], at: usize, words: &[u32], i: usize) -> usize
 
 // The lines of `count` entries of the words, from entry `first` on.
 pub fn put_entries(out: &mut [u8], at: usize, words: &[u32], first: usize, count: usize) -> usize
-    requires { ⌜ (perEntry * (first + count) ≤ length (now words)) × (at + 82 * count ≤ length (now out)) ⌝ }
+    requires { ⌜ (perEntry * (first + count) ≤ length (now words)) × (at + entryRoom * count ≤ length (now out)) ⌝ }
     ensures { λ r. ⌜ Put (now (out .entry)) at (entryLines (entriesIn (now (words .entry)) first count)) (now (out .exit)) r ⌝ }
 {
     let mut to = at;
@@ -105,7 +105,7 @@ pub fn put_head(
     rays: usize,
     t: usize,
 ) -> usize
-    requires { ⌜ at + 160 ≤ length (now out) ⌝ }
+    requires { ⌜ at + lineRoom ≤ length (now out) ⌝ }
     ensures { λ r. ⌜ Put (now (out .entry)) at (headLine cut product bins rays t) (now (out .exit)) r ⌝ }
 {
     let a = put_named(out, at, b"cut ", cut);
@@ -118,7 +118,7 @@ pub fn put_head(
 
 // The line of a refusal.
 pub fn put_refused(out: &mut [u8], at: usize, number: usize, place: usize) -> usize
-    requires { ⌜ at + 160 ≤ length (now out) ⌝ }
+    requires { ⌜ at + lineRoom ≤ length (now out) ⌝ }
     ensures { λ r. ⌜ Put (now (out .entry)) at (refusedLine number place) (now (out .exit)) r ⌝ }
 {
     let a = put_named(out, at, b"refused ", number);
@@ -128,7 +128,7 @@ pub fn put_refused(out: &mut [u8], at: usize, number: usize, place: usize) -> us
 
 // The last line.
 pub fn put_end(out: &mut [u8], at: usize, total: usize) -> usize
-    requires { ⌜ at + 160 ≤ length (now out) ⌝ }
+    requires { ⌜ at + lineRoom ≤ length (now out) ⌝ }
     ensures { λ r. ⌜ Put (now (out .entry)) at (endLine total) (now (out .exit)) r ⌝ }
 {
     let a = put_named(out, at, b"end ", total);

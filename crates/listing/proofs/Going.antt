@@ -1,7 +1,6 @@
 -- Each kind of step writes the beginning of what was to come.
-use Prim.Native.Nat.{ℕ, zero, suc, _+_, _-_, _*_, _≤_, _<_}
-use mathlib.Core.Path.{_≡_, refl, sym, ap, subst, _∙_}
-use mathlib.Core.Bool.{false}
+use Prim.Native.Nat.{ℕ, zero, suc, _+_, _-_, _≤_, _<_}
+use mathlib.Core.Path.{_≡_, refl, sym, ap, _∙_}
 use mathlib.Core.List.{List, [], _∷_, _++_, append-nil}
 use native.Mathlib.Omega.{arith}
 use lib.ListN.{length, take, drop, length-append, length-take, length-drop}
@@ -17,7 +16,7 @@ use Rattle.lines.proofs.Placing.{put-none, named}
 use Rattle.lines.proofs.Words.{entries-part}
 use Rattle.lines.proofs.Lines.{lines-some, head-some, refused-some, end-some}
 use Rattle.listing.specs.Listing.{headOf}
-use Rattle.listing.specs.Progress.{listOf, turnText, textFrom, finished, On, Held, Sound, Reaches, rank, stepsLeft, Goes}
+use Rattle.listing.specs.Progress.{listOf, turnText, textFrom, Held, Sound, Reaches, rank, stepsLeft, Goes}
 use Rattle.listing.specs.declared.Turn.{Turn}
 use Rattle.listing.specs.declared.Progress.{Progress}
 use Rattle.listing.specs.declared.Progress.the-variants.{Refused, Head, Fill, Show, End, Finished}
@@ -84,9 +83,6 @@ part (suc k) n (suc m) (e ∷ L) h = part k n m L (omega arith)
 
 module _ (s ws d e : List ℕ) (at to : ℕ) (t : Turn) (l : Listing) (k n : ℕ) (x : Held s ws t l k) (fits : k + n ≤ l .count)
     (put : Put d at (entryLines (entriesIn ws k n)) e to) (some : 0 < n) where
-  L : List Entry
-  L = listOf s t
-
   lines : entriesIn ws k n ≡ take n (drop k (listOf s t))
   lines =
       entries-part ws k n (l .count) fits ∙ ap (λ (es : List Entry). take n (drop k es)) (x .holds) ∙ part k n (l .count) (listOf s t) fits

@@ -16,7 +16,6 @@ use Rattle.stretches.specs.Stretch.{Entry, perEntry, wordsOf}
 use Rattle.stretches.specs.Call.{houseThreshold, fitting, answerOf, outOf, rightPoint}
 use Rattle.stretches.specs.declared.Listing.{Listing}
 use Rattle.cuts.specs.After.{cutAfter}
-use Rattle.cuts.specs.Bins.{stretchesIn}
 use Rattle.lines.specs.Text.{entryLines}
 use Rattle.lines.specs.Words.{entriesIn}
 use Rattle.lines.proofs.Words.{held}

@@ -1,14 +1,14 @@
 -- Step after step makes a page, and the pages joined are the whole text.
-use Prim.Native.Nat.{ℕ, suc, _+_, _≤_, _<_}
+use Prim.Native.Nat.{ℕ, suc, _+_, _<_}
 use mathlib.Core.Path.{_≡_, refl, sym, ap, _∙_}
 use mathlib.Core.Bool.{true, false}
-use mathlib.Core.List.{List, [], _++_, append-assoc, append-nil}
+use mathlib.Core.List.{List, [], _++_, append-assoc}
 use native.Mathlib.Omega.{arith}
 use lib.ListN.{length, drop, length-append}
-use Rattle.runs.specs.Lent.{front, placed}
+use Rattle.runs.specs.Lent.{placed}
 use Rattle.runs.proofs.Lent.{placed-front, length-front}
 use Rattle.lines.specs.Text.{entryLines, endLine}
-use Rattle.lines.proofs.Lines.{head-some, refused-some, end-some}
+use Rattle.lines.proofs.Lines.{refused-some, end-some}
 use Rattle.listing.specs.Listing.{headOf, textOf, cutLines, entryCount}
 use Rattle.listing.specs.Progress.{cutsIn, listOf, textAt, turnText, textFrom, finished, Sound, Goes, Paged, Pages, none, more}
 use Rattle.listing.specs.declared.Turn.{Turn}
@@ -18,6 +18,9 @@ use Rattle.listing.specs.declared.Stepped.{Stepped}
 use Rattle.listing.specs.declared.Written.{Written}
 
 -- ---- something is to come, unless the writing is finished
+never : false ≡ true → ⊥
+never h = let z : _≡_ {A = ℕ} 0 1 = cc in omega arith
+
 at-some : (s : List ℕ) (i n : ℕ) → 0 < length (textAt s i n)
 unfolding textAt
 at-some s i n =
@@ -37,15 +40,15 @@ text-some s (Head t) h = omega (arith, length-append (headOf s (t .number) (t .c
 text-some s (Fill t) h = turn-some s t 0
 text-some s (Show t l k) h = turn-some s t k
 text-some s (End n) h = end-some n
-text-some s Finished h = let z : _≡_ {A = ℕ} 0 1 = cc in absurd (omega arith)
+text-some s Finished h = absurd (never (sym h))
 
 pub text-none : (s : List ℕ) (p : Progress) → finished p ≡ true → textFrom s p ≡ []
 unfolding textFrom
-text-none s (Refused r) h = let z : _≡_ {A = ℕ} 0 1 = cc in absurd (omega arith)
-text-none s (Head t) h = let z : _≡_ {A = ℕ} 0 1 = cc in absurd (omega arith)
-text-none s (Fill t) h = let z : _≡_ {A = ℕ} 0 1 = cc in absurd (omega arith)
-text-none s (Show t l k) h = let z : _≡_ {A = ℕ} 0 1 = cc in absurd (omega arith)
-text-none s (End n) h = let z : _≡_ {A = ℕ} 0 1 = cc in absurd (omega arith)
+text-none s (Refused r) h = absurd (never h)
+text-none s (Head t) h = absurd (never h)
+text-none s (Fill t) h = absurd (never h)
+text-none s (Show t l k) h = absurd (never h)
+text-none s (End n) h = absurd (never h)
 text-none s Finished h = refl
 
 -- ---- a page, step by step

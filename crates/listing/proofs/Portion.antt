@@ -1,13 +1,13 @@
 -- One listing of a cut: how many entries it takes from the list, what the next point has to list, and that a cut has an entry.
 use Prim.Native.Nat.{ℕ, zero, suc, _+_, _-_, _*_, _/_, _≤_, _<_, min}
-use mathlib.Core.Path.{_≡_, refl, sym, ap, subst, _∙_}
-use mathlib.Core.Bool.{Bool, true, false, cond, _&&_, _||_}
+use mathlib.Core.Path.{_≡_, refl, sym, ap, _∙_}
+use mathlib.Core.Bool.{Bool, true, false, cond, _&&_}
 use mathlib.Core.List.{List, [], _∷_}
-use native.Mathlib.Nat.{zero-mod, zero-mul, mul-le-mul}
+use native.Mathlib.Nat.{zero-mod, mul-le-mul}
 use native.Mathlib.Omega.{arith}
 use borrow.Author.Tests.{lt-ltb, le-ltb, eqb-true}
-use lib.Dec.{leb, ltb, eqb}
-use lib.ListN.{length, take, drop, length-take, length-drop, drop-of-length-le}
+use lib.Dec.{leb, eqb}
+use lib.ListN.{length, take, drop, length-take, drop-of-length-le}
 use lib.Seq.{take-all}
 use lib.IntN.{ℤ}
 use Rattle.runs.specs.Run.{levels}
@@ -15,9 +15,8 @@ use Rattle.runs.proofs.Bins.{either}
 use Rattle.layout.specs.Parts.{productIn, binsIn, raysIn, greatestIn, dataAt}
 use Rattle.layout.specs.Good.{GoodCut}
 use Rattle.layout.specs.declared.Cut.{Cut}
-use Rattle.stretches.specs.Stretch.{Entry, Scale, perEntry, kindAt, fresh, starts, entryAt, more, listFrom, stretchesOf, past}
+use Rattle.stretches.specs.Stretch.{Entry, perEntry, kindAt, fresh, starts, entryAt, more, listFrom, stretchesOf, past}
 use Rattle.stretches.specs.Call.{scaleOf, listed, fitting, answer, answerOf, rightPoint}
-use Rattle.stretches.specs.Portions.{from}
 use Rattle.stretches.specs.declared.Listing.{Listing}
 use Rattle.stretches.proofs.Portions.{from-start, from-end, from-next, next-right}
 use Rattle.cuts.specs.Bins.{stretchesIn}
@@ -73,6 +72,11 @@ module _ (s : List ℕ) (c : Cut) (t : ℤ) (g : GoodCut s c) where
   first-point = let b = g .bins-some in let r = g .rays-some in rw (lt-ltb 0 (raysIn s c) (omega arith), lt-ltb 0 (binsIn s c) (omega arith))
 
 -- ---- an answer for a list
+
+-- what is the same from k on is the same at n as at the least of n and k
+at-most : (f : ℕ → List Entry) (k n : ℕ) → ((i j : ℕ) → k ≤ i → k ≤ j → f i ≡ f j) → f n ≡ f (min n k)
+at-most f k n same = either n k (λ h. let e : n ≡ min n k = omega arith in ap f e) (λ h. same n (min n k) (omega arith) (omega arith))
+
 module _ (nr room : ℕ) (L : List Entry) where
   pub count-is : answerOf nr room L .count ≡ min (room / perEntry) (length L)
   unfolding answerOf
@@ -84,20 +88,12 @@ module _ (nr room : ℕ) (L : List Entry) where
 
   -- dropping as many as there is room for, or as many as were listed, is the same
   pub drop-count : drop (room / perEntry) L ≡ drop (answerOf nr room L .count) L
-  drop-count = rw count-is (go (room / perEntry) L)
-    where
-      go : (n : ℕ) (l : List Entry) → drop n l ≡ drop (min n (length l)) l
-      go n l =
-          either n (length l) (λ h. let e : n ≡ min n (length l) = omega arith in ap (λ (k : ℕ). drop k l) e)
-          (λ h. drop-of-length-le l {i = n} (omega arith) ∙ sym (drop-of-length-le l {i = min n (length l)} (omega arith)))
+  drop-count =
+      rw count-is
+      (at-most (λ n. drop n L) (length L) (room / perEntry) (λ i j p q. drop-of-length-le L {i = i} p ∙ sym (drop-of-length-le L {i = j} q)))
 
   pub take-count : take (room / perEntry) L ≡ take (answerOf nr room L .count) L
-  take-count = rw count-is (go (room / perEntry) L)
-    where
-      go : (n : ℕ) (l : List Entry) → take n l ≡ take (min n (length l)) l
-      go n l =
-          either n (length l) (λ h. let e : n ≡ min n (length l) = omega arith in ap (λ (k : ℕ). take k l) e)
-          (λ h. take-all n l (omega arith) ∙ sym (take-all (min n (length l)) l (omega arith)))
+  take-count = rw count-is (at-most (λ n. take n L) (length L) (room / perEntry) (λ i j p q. take-all i L p ∙ sym (take-all j L q)))
 
   before-last : answerOf nr room L .ray < nr → 0 < length (drop (room / perEntry) L)
   unfolding answerOf

@@ -1,6 +1,6 @@
 -- Before the first octet: by the length of the file and what the walk answers, the whole text is to come.
 use Prim.Native.Nat.{ℕ, _+_, _≤_, _<_}
-use mathlib.Core.Path.{_≡_, refl, sym, ap, subst, _∙_}
+use mathlib.Core.Path.{_≡_, refl, sym, ap, _∙_}
 use mathlib.Core.List.{List, _++_}
 use native.Mathlib.Omega.{arith}
 use borrow.Author.Tests.{lt-ltb, le-ltb}
@@ -12,9 +12,9 @@ use Rattle.layout.specs.declared.FileRefusal.{FileRefusal}
 use Rattle.layout.specs.declared.FileRefusal.the-variants.{FileSize}
 use Rattle.layout.specs.declared.Found.{Found}
 use Rattle.layout.specs.declared.Walked.the-variants as W
-use Rattle.lines.specs.Text.{refusedLine, endLine, entryLines}
-use Rattle.listing.specs.Listing.{headOf, houseList, cutLines, entryCount, verdictText, textOf}
-use Rattle.listing.specs.Progress.{cutsBy, cutsIn, cutBegun, textAt, turnText, textFrom, On, Sound}
+use Rattle.lines.specs.Text.{refusedLine, endLine}
+use Rattle.listing.specs.Listing.{cutLines, entryCount, verdictText, textOf}
+use Rattle.listing.specs.Progress.{cutsBy, cutsIn, cutBegun, textAt, turnText, textFrom, Sound}
 use Rattle.listing.specs.declared.Turn.{Turn}
 use Rattle.listing.specs.declared.Progress.the-variants.{Refused, Head}
 use Rattle.listing.proofs.AllCuts.{some-cut}

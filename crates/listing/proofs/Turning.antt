@@ -1,22 +1,18 @@
 -- What is to come past the entries of a listing: more of the same list, the next cut, or the end.
-use Prim.Native.Nat.{ℕ, zero, suc, _+_, _-_, _*_, _≤_, _<_}
-use mathlib.Core.Path.{_≡_, refl, sym, ap, subst, _∙_}
+use Prim.Native.Nat.{ℕ, suc, _+_, _-_, _≤_, _<_}
+use mathlib.Core.Path.{_≡_, sym, ap, _∙_}
 use mathlib.Core.List.{List, [], _∷_, _++_, append-assoc}
 use native.Mathlib.Omega.{arith}
-use lib.ListN.{length, take, drop, getD, length-drop, drop-of-length-le, take-append-drop}
+use lib.ListN.{length, take, drop, getD, drop-of-length-le, take-append-drop}
 use lib.Seq.{drop-cons, drop-drop}
-use Rattle.layout.specs.Parts.{binsIn, raysIn}
-use Rattle.layout.specs.Good.{GoodCut}
 use Rattle.layout.specs.Verdict.{noCut}
 use Rattle.layout.specs.declared.Cut.{Cut}
-use Rattle.stretches.specs.Stretch.{Entry, perEntry}
-use Rattle.stretches.specs.declared.Listing.{Listing}
+use Rattle.stretches.specs.Stretch.{Entry}
 use Rattle.lines.specs.Text.{entryLines, endLine}
 use Rattle.lines.proofs.Lines.{lines-append}
 use Rattle.listing.specs.Listing.{headOf, houseList, cutLines, entryCount}
 use Rattle.listing.specs.Progress.{cutsIn, listOf, textAt, turnText}
 use Rattle.listing.specs.declared.Turn.{Turn}
-use Rattle.stretches.specs.Call.{houseThreshold}
 
 -- past the last cut
 pub no-cut : (s : List ℕ) (i n : ℕ) → length (cutsIn s) ≤ i → textAt s i n ≡ endLine n

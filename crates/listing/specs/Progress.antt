@@ -12,7 +12,7 @@ use Rattle.stretches.specs.Stretch.{Entry, perEntry}
 use Rattle.stretches.specs.Call.{answerOf, rightPoint}
 use Rattle.stretches.specs.declared.Listing.{Listing}
 use Rattle.runs.specs.Lent.{front}
-use Rattle.lines.specs.Put.{Put}
+use Rattle.lines.specs.Put.{Put, entryRoom}
 use Rattle.lines.specs.Text.{entryLines, refusedLine, endLine}
 use Rattle.lines.specs.Words.{entriesIn}
 use Rattle.listing.specs.Listing.{headOf, houseList, cutLines, entryCount}
@@ -21,6 +21,10 @@ use Rattle.listing.specs.declared.Progress.{Progress}
 use Rattle.listing.specs.declared.Progress.the-variants.{Refused, Head, Fill, Show, End, Finished}
 use Rattle.listing.specs.declared.Stepped.{Stepped}
 use Rattle.listing.specs.declared.Written.{Written}
+
+-- how much room a step asks: that of 256 lines of entries
+abbrev pub stepRoom : ℕ
+stepRoom = 256 * entryRoom
 
 -- the cuts of a file
 abbrev pub cutsBy : Verdict → List Cut

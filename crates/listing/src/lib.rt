@@ -14,11 +14,11 @@ ghost use Prim.Native.Nat.{ℕ, _+_, _≤_, _<_, min};
 ghost use lib.ListN.{length};
 ghost use Rattle.layout.specs.Refusal.{numberOf, placeOf};
 ghost use Rattle.stretches.specs.Stretch.{perEntry};
-ghost use Rattle.lines.specs.Put.{Put};
+ghost use Rattle.lines.specs.Put.{Put, lineRoom};
 ghost use Rattle.listing.specs.Listing.{productNumber, headOf, textOf};
-ghost use Rattle.listing.specs.Progress.{cutBegun, textFrom, turnText, finished, rank, On, Listed, Held, Sound, Reaches, Goes, Paged};
+ghost use Rattle.listing.specs.Progress.{stepRoom, cutBegun, textFrom, turnText, finished, rank, On, Listed, Held, Sound, Reaches, Goes, Paged};
 
-// How many lines a step writes at most, and how much room it asks.
+// How many lines of entries a step writes at most, and how much room it asks.
 const LINES: usize = 256;
 
 const ROOM: usize = 20992;
@@ -151,7 +151,7 @@ pub fn is_finished(p: Progress) -> bool
 }
 
 fn put_first_line(file: &[u8], t: Turn, text: &mut [u8], at: usize) -> usize
-    requires { ⌜ at + 160 ≤ length (now text) ⌝ }
+    requires { ⌜ at + lineRoom ≤ length (now text) ⌝ }
     ensures { λ r. ⌜ Put (now (text .entry)) at (headOf (now (file .entry)) (t .number) (t .cut)) (now (text .exit)) r ⌝ }
 {
     let cut = t.cut;
@@ -216,7 +216,7 @@ fn show(
     at: usize,
 ) -> Stepped
     requires { ⌜ Held (now file) (now words) t l shown ⌝ }
-    requires { ⌜ at + 20992 ≤ length (now text) ⌝ }
+    requires { ⌜ at + stepRoom ≤ length (now text) ⌝ }
     ensures { λ r. ⌜ Goes (now (file .entry)) (now (words .entry)) (now (text .entry)) (Progress.Show t l shown) at (now (text .exit)) r ⌝ }
 {
     let n = least(l.count - shown, LINES);
@@ -234,7 +234,7 @@ fn show(
 // One step: a line, some lines, or a listing.
 fn step(file: &[u8], p: Progress, words: &mut [u32], text: &mut [u8], at: usize) -> Stepped
     requires { ⌜ Sound (now file) (now words) p ⌝ }
-    requires { ⌜ (perEntry ≤ length (now words)) × (at + 20992 ≤ length (now text)) ⌝ }
+    requires { ⌜ (perEntry ≤ length (now words)) × (at + stepRoom ≤ length (now text)) ⌝ }
     ensures { λ r. ⌜ Goes (now (file .entry)) (now (words .exit)) (now (text .entry)) p at (now (text .exit)) r ⌝ }
 {
     match p {
@@ -274,7 +274,7 @@ fn step(file: &[u8], p: Progress, words: &mut [u32], text: &mut [u8], at: usize)
 // The next page of the text, at the front of `text`.
 pub fn page(file: &[u8], p: Progress, words: &mut [u32], text: &mut [u8]) -> Written
     requires { ⌜ Sound (now file) (now words) p ⌝ }
-    requires { ⌜ (perEntry ≤ length (now words)) × (20992 ≤ length (now text)) ⌝ }
+    requires { ⌜ (perEntry ≤ length (now words)) × (stepRoom ≤ length (now text)) ⌝ }
     ensures { λ r. ⌜ Paged (now (file .entry)) (now (words .exit)) (now (text .entry)) p (now (text .exit)) r ⌝ }
     ensures { λ r. ⌜ (finished p ≡ false → 0 < r .len) ⌝ }
 {

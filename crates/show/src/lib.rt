@@ -2,10 +2,12 @@
 // what a descriptor takes.
 ghost use Prim.Native.Nat.{_≤_};
 ghost use lib.ListN.{length};
+ghost use Rattle.stretches.specs.Stretch.{perEntry};
+ghost use Rattle.listing.specs.Progress.{stepRoom};
 
 // `words` and `text` are room for the work: a listing's words, and a page.
 pub fn show(fd: i32, file: &[u8], words: &mut [u32], text: &mut [u8])
-    requires { ⌜ (4 ≤ length (now words)) × (20992 ≤ length (now text)) ⌝ }
+    requires { ⌜ (perEntry ≤ length (now words)) × (stepRoom ≤ length (now text)) ⌝ }
 {
     let mut p = listing::start(file);
     while !listing::is_finished(p) {

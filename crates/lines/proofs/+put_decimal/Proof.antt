@@ -1,12 +1,11 @@
 -- `put_decimal` meets its contract: it calls itself for the digits before the last, with a tenth of the number.
-use mathlib.Core.Path.{_≡_, sym, subst, _∙_}
+use mathlib.Core.Path.{subst, _∙_}
 use native.Mathlib.Nat.{div-lt-self, mod-lt}
 use native.Mathlib.Omega.{arith}
-use lib.ListN.{length, length-set}
-use Rattle.lines.specs.Text.{decimal}
+use lib.ListN.{length-set}
 use Rattle.lines.proofs.Decimal.{decimal-longer, decimal-some}
 use Rattle.lines.proofs.Placing.{one-digit, last-digit}
-use Prim.Native.Nat.{ℕ, _+_, _/_, _%_, _<_}
+use Prim.Native.Nat.{ℕ, _+_, _/_, _<_}
 use borrow.Fn.Kinds.{In}
 use borrow.Fn.PlainCycle.{Measures, is, falls, and}
 use Rattle.lines.proofs.put_decimal.Reads as put-decimal

@@ -1,5 +1,4 @@
 -- `put_end` meets its contract, piece by piece.
-use native.Mathlib.Omega.{arith}
 use Rattle.lines.specs.Text.{endLine}
 use Rattle.lines.proofs.Placing.{then}
 use borrow.Author.Needs.{needs}

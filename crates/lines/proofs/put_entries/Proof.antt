@@ -4,9 +4,9 @@ use mathlib.Core.Path.{_≡_, refl, sym, ap, _∙_}
 use mathlib.Core.List.{List}
 use native.Mathlib.Omega.{arith}
 use lib.ListN.{length}
-use borrow.Author.Needs.{needs}
 use Rattle.runs.specs.Lent.{placed}
 use Rattle.runs.proofs.Lent.{placed-none}
+use Rattle.lines.specs.Put.{entryRoom}
 use Rattle.lines.specs.Text.{entryLines}
 use Rattle.lines.specs.Words.{entriesIn}
 use Rattle.lines.proofs.Lines.{entries-none, more-put}
@@ -14,7 +14,7 @@ use Rattle.lines.proofs.put_entries.Statement.{statement}
 use Rattle.lines.proofs.put_entries.Tie as tie
 
 abbrev Inv-loop : tie.InvT-loop
-Inv-loop out₀ at words first count to₀ i₀ left₀ out to i left = (i + left ≡ first + count) × (to + 82 * left ≤ at + 82 * count) × (length out ≡ length out₀)
+Inv-loop out₀ at words first count to₀ i₀ left₀ out to i left = (i + left ≡ first + count) × (to + entryRoom * left ≤ at + entryRoom * count) × (length out ≡ length out₀)
     × (placed out to (entryLines (entriesIn words i left)) ≡ placed out₀ at (entryLines (entriesIn words first count)))
     × (to + length (entryLines (entriesIn words i left)) ≡ at + length (entryLines (entriesIn words first count)))
 

@@ -1,10 +1,9 @@
 -- `page` meets its contract: the steps so far make a page.
-use Prim.Native.Nat.{ℕ, _+_, _≤_, _<_}
-use mathlib.Core.Path.{_≡_, refl, sym, ap, _∙_}
+use mathlib.Core.Path.{_≡_, refl, sym, _∙_}
 use native.Mathlib.Omega.{arith}
 use lib.ListN.{length}
 use borrow.Author.Needs.{needs}
-use Rattle.listing.specs.Progress.{textFrom, finished, stepsLeft, Goes, Paged}
+use Rattle.listing.specs.Progress.{stepsLeft, Paged}
 use Rattle.listing.proofs.Pages.{no-page, page-length, page-some, page-more}
 use Rattle.listing.proofs.page.Statement.{statement}
 use Rattle.listing.proofs.page.Tie as tie

@@ -1,5 +1,5 @@
 -- `put_first_line` meets its contract: the numbers are those of the cut.
-use mathlib.Core.Path.{_≡_, ap, _∙_}
+use mathlib.Core.Path.{ap, _∙_}
 use Rattle.lines.specs.Text.{headLine}
 use Rattle.lines.proofs.Placing.{named}
 use Rattle.listing.specs.Listing.{productNumber, headOf}
