@@ -5,7 +5,7 @@ use mathlib.Core.Bool.{Bool, true, false, cond}
 use mathlib.Core.List.{List, [], _∷_, _++_}
 use native.Mathlib.Omega.{arith}
 use lib.ListN.{length, drop, getD, replicate, length-append, length-replicate, length-drop, drop-of-length-le, getD-replicate, List·getD-append}
-use lib.Seq.{drop-drop, drop-at, getD-append-add}
+use lib.Seq.{drop-drop, drop-at, getD-append-add, getD-drop}
 use lib.Dec.{leb, eqb}
 use borrow.Author.Tests.{le-leb, leb-true, eqb-true}
 use Rattle.runs.specs.Run.{digitSum, digitCount, levels, opens, gives, runLen, runNext, stepAt}
@@ -163,6 +163,32 @@ module _ (v : ℕ) (s : List ℕ) (at bins : ℕ) (L : List ℕ) (more : bins < 
 
   pub here-opened : opens v (drop (runNext v s at) s) ≡ true
   here-opened = run-opens v s at here-inside here-low
+
+  -- each of its bins has its level
+  pub here-level : (a : ℕ) → bins ≤ a → a < bins + runLen v s at → getD L a 0 ≡ getD s at 0
+  here-level a low high =
+      let j : ℕ = a - bins in
+      let split : a ≡ bins + j = omega arith in
+      let row : List ℕ = replicate (runLen v s at) (getD s at 0) in
+      ap (λ (n : ℕ). getD L n 0) split
+      ∙ sym (getD-drop bins L j 0)
+      ∙ ap (λ (l : List ℕ). getD l j 0) here-run
+      ∙ List·getD-append row (drop (bins + runLen v s at) L) 0 j (omega (arith, length-replicate (runLen v s at) (getD s at 0)))
+      ∙ getD-replicate (runLen v s at) j (getD s at 0) 0 (omega arith)
+
+  -- what `known_run` asks there
+  pub here-known : length L ≤ 2097152 → (at < length s) × (runLen v s at ≤ 2097152)
+  here-known few = (here-inside, omega (arith, here-fits))
+
+  -- past the run that it answers, all is as before it
+  pub here-next : (len next : ℕ) → len ≡ runLen v s at → next ≡ runNext v s at
+      → (0 < len) × (bins + len ≤ length L) × (drop (bins + len) L ≡ levels v (drop next s)) × (opens v (drop next s) ≡ true)
+  here-next len next e f = (
+    omega arith,
+    omega (arith, here-fits),
+    ap (λ (n : ℕ). drop (bins + n) L) e ∙ here-rest ∙ ap (λ (n : ℕ). levels v (drop n s)) (sym f),
+    ap (λ (n : ℕ). opens v (drop n s)) f ∙ here-opened,
+  )
 
 -- ---- what a scan tells
 pub told : (b : Bool) → Exact ≡ cond b Exact Off → b ≡ true

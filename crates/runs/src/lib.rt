@@ -4,9 +4,10 @@
 ghost use mathlib.Core.Bool.{true};
 ghost use mathlib.Core.Path.{_≡_};
 ghost use Prim.Native.Nat.{_≤_, _<_, _-_, min};
-ghost use lib.ListN.{length, replicate};
+ghost use lib.ListN.{length, replicate, getD};
 ghost use Rattle.runs.specs.Run.{levels, opens, scanned, runLen, runNext, stepAt};
 ghost use Rattle.runs.specs.Lent.{front, placed, between};
+ghost use Rattle.runs.specs.Spot.{Holds};
 ghost use Rattle.runs.specs.Read.{ReadPromise, CheckPromise};
 
 // Whether octets give exactly the bins wanted.
@@ -172,14 +173,54 @@ fn lesser(x: usize, y: usize) -> usize
     if x <= y { x } else { y }
 }
 
+// Where a bin stands: the place of the level octet whose run holds it, and how many bins come before that run.
+pub struct Spot {
+    pub at: usize,
+    pub bins: usize,
+}
+
+// The spot of bin a: the runs before it are passed over, and nothing is stored.
+pub fn seek(octets: &[u8], v: u8, a: usize) -> Spot
+    requires { ⌜ (v ≤ 253) × (opens v (now octets) ≡ true) × (length (levels v (now octets)) ≤ 2097152) ⌝ }
+    requires { ⌜ a < length (levels v (now octets)) ⌝ }
+    ensures { λ r. ⌜ Holds v (now (octets .entry)) a r ⌝ }
+{
+    let mut at: usize = 0;
+    let mut bins: usize = 0;
+    loop {
+        let run = known_run(octets, v, at);
+        let end = bins + run.len;
+        if a < end {
+            return Spot { at, bins };
+        }
+        bins = end;
+        at = run.next;
+    }
+}
+
+// The level of bin a.
+pub fn level_at(octets: &[u8], v: u8, a: usize) -> u8
+    requires { ⌜ (v ≤ 253) × (opens v (now octets) ≡ true) × (length (levels v (now octets)) ≤ 2097152) ⌝ }
+    requires { ⌜ a < length (levels v (now octets)) ⌝ }
+    ensures { λ r. ⌜ r ≡ getD (levels v (now (octets .entry))) a 0 ⌝ }
+{
+    let spot = seek(octets, v, a);
+    let at = spot.at;
+    octets[at]
+}
+
 // The bins a up to b of what the octets give, at the front of out. Octets past the run that reaches b are not looked at.
 pub fn fill(octets: &[u8], v: u8, a: usize, b: usize, out: &mut [u8])
     requires { ⌜ (v ≤ 253) × (opens v (now octets) ≡ true) × (length (levels v (now octets)) ≤ 2097152) ⌝ }
     requires { ⌜ (a ≤ b) × (b ≤ length (levels v (now octets))) × (b - a ≤ length (now out)) ⌝ }
     ensures { λ _. ⌜ now (out .exit) ≡ front (between a b (levels v (now (octets .entry)))) (now (out .entry)) ⌝ }
 {
-    let mut at: usize = 0;
-    let mut bins: usize = 0;
+    if b <= a {
+        return;
+    }
+    let spot = seek(octets, v, a);
+    let mut at = spot.at;
+    let mut bins = spot.bins;
     while bins < b {
         let level = octets[at];
         let run = known_run(octets, v, at);

@@ -1,13 +1,14 @@
--- `fill` meets its contract: the bins of the runs read so far, up to b, are in front.
+-- `fill` meets its contract: from the spot of bin a on, the bins of the runs read so far, up to b, are in front.
 use Prim.Native.Nat.{ℕ, _+_, _-_, _≤_, _<_, min}
-use mathlib.Core.Path.{_≡_, refl, sym, ap, _∙_}
+use mathlib.Core.Path.{_≡_, sym, ap, _∙_}
 use mathlib.Core.Bool.{true}
+use mathlib.Core.List.{List}
 use native.Mathlib.Omega.{arith}
 use lib.ListN.{length, getD, drop, replicate}
 use Rattle.runs.specs.Run.{levels, opens, runLen}
 use Rattle.runs.specs.Lent.{placed, between, front}
 use Rattle.runs.proofs.Lent.{painted, front-none, length-between, length-front}
-use Rattle.runs.proofs.Here.{here-inside, here-fits, here-run, here-rest, here-opened}
+use Rattle.runs.proofs.Here.{here-inside, here-run, here-known, here-next}
 use borrow.Author.Needs.{needs}
 use Rattle.runs.proofs.fill.Statement.{statement}
 use Rattle.runs.proofs.fill.Tie as tie
@@ -18,43 +19,61 @@ Inv-loop octets v a b out₀ at₀ bins₀ out at bins = (bins ≤ length (level
 abbrev μ-loop : tie.MeasureT-loop
 μ-loop octets v a b out₀ at₀ bins₀ out at bins = b - bins
 
--- the buffer keeps its length
-size : (c : tie.At-loop Inv-loop μ-loop) → length (c .loop .out) ≡ length (c .before .before .before .args .out .now)
-size c =
-    let a = c .before .before .before .args in
-    let L = levels (a .v) (a .octets .now) in
-    let m = min (c .loop .bins) (a .b) in
-    ap length (c .loop .inv .3) ∙ length-front (between (a .a) m L) (a .out .now) (omega (arith, length-between L (a .a) m (omega (arith, c .loop .inv .0)), c .before .before .before .pre .1 .2))
+abbrev start : (c : tie.At-loop Inv-loop μ-loop) → tie.Start Inv-loop μ-loop
+start c = c .before .before .before .before .before
 
--- the run is one of the levels, so it is no longer than they are
-fits-in : (c : tie.After-known-run Inv-loop μ-loop) → (0 < c .known-run .result .len) × (c .before .before .before .loop .bins + c .known-run .result .len ≤ length (levels (c .before .before .before .before .before .before .args .v) (c .before .before .before .before .before .before .args .octets .now))) × (length (levels (c .before .before .before .before .before .before .args .v) (c .before .before .before .before .before .before .args .octets .now)) ≤ 2097152)
-fits-in c =
-    let a = c .before .before .before .before .before .before .args in
-    let l = c .before .before .before .loop in
-    let L = levels (a .v) (a .octets .now) in
-    let p = c .before .before .before .before .before .before .pre in
-    let r = c .known-run .ensures .0 in
-    let f = here-fits (a .v) (a .octets .now) (l .at) (l .bins) L (omega (arith, c .before .before .loop-test .taken, p .1 .1)) (l .inv .1) (l .inv .2) in
-    (omega (arith, r), omega (arith, r, f), p .0 .2)
+abbrev row : (c : tie.At-loop Inv-loop μ-loop) → List ℕ
+row c = levels (start c .args .v) (start c .args .octets .now)
+
+-- the buffer keeps its length
+size : (c : tie.At-loop Inv-loop μ-loop) → length (c .loop .out) ≡ length (start c .args .out .now)
+size c =
+    let s = start c in
+    let m = min (c .loop .bins) (s .args .b) in
+    ap length (c .loop .inv .3) ∙ length-front (between (s .args .a) m (row c)) (s .args .out .now) (omega (arith, length-between (row c) (s .args .a) m (omega (arith, c .loop .inv .0)), s .pre .1 .2))
+
+-- within the row, a run stands at the place in hand
+more : (c : tie.At-loop Inv-loop μ-loop) → c .loop .bins < start c .args .b → c .loop .bins < length (row c)
+more c h = omega (arith, h, start c .pre .1 .1)
+
+-- past that run
+past : (c : tie.After-known-run Inv-loop μ-loop) → let h = c .before .before .before in
+    let bins = h .loop .bins + c .known-run .result .len in
+    let left = drop (c .known-run .result .next) (start h .args .octets .now) in
+    (0 < c .known-run .result .len) × (bins ≤ length (row h)) × (drop bins (row h) ≡ levels (start h .args .v) left) × (opens (start h .args .v) left ≡ true)
+past c = let h = c .before .before .before in
+    let l = h .loop in
+    here-next (start h .args .v) (start h .args .octets .now) (l .at) (l .bins) (row h) (more h (c .before .before .loop-test .taken)) (l .inv .1) (l .inv .2) _ _ (c .known-run .ensures .0) (c .known-run .ensures .1)
+
+returns : tie.Need-returns Inv-loop μ-loop
+returns c = let s = c .before .before .before in
+    front-none (drop (s .args .a) (levels (s .args .v) (s .args .octets .now))) (s .args .out .now) (s .args .b - s .args .a) (omega (arith, c .if1 .taken))
+
+seek-requires : tie.Need-seek-requires Inv-loop μ-loop
+seek-requires c κs = let p = c .before .before .before .pre in
+    (p .0, omega (arith, c .if1 .left, p .1 .1))
 
 loop-holds : tie.Need-loop-holds Inv-loop μ-loop
-loop-holds c = let a = c .before .before .args in
-    (omega arith, refl, c .before .before .pre .0 .1, front-none (drop (a .a) (levels (a .v) (a .octets .now))) (a .out .now) (min 0 (a .b) - a .a) (omega arith))
+loop-holds c = let s = c .before .before .before .before in
+    let h = c .seek .ensures in (
+      omega (arith, h .before, s .pre .1),
+      h .rest,
+      h .opened,
+      front-none (drop (s .args .a) (levels (s .args .v) (s .args .octets .now))) (s .args .out .now) (min (c .seek .result .bins) (s .args .b) - s .args .a) (omega (arith, h .before)),
+    )
 
 shared-slice-read-level : tie.Need-shared-slice-read-level Inv-loop μ-loop
-shared-slice-read-level c = let a = c .before .before .before .before .before .args in
-    let l = c .before .before .loop in
-    here-inside (a .v) (a .octets .now) (l .at) (l .bins) (levels (a .v) (a .octets .now)) (omega (arith, c .before .loop-test .taken, c .before .before .before .before .before .pre .1 .1)) (l .inv .1) (l .inv .2)
+shared-slice-read-level c = let h = c .before .before in
+    here-inside (start h .args .v) (start h .args .octets .now) (h .loop .at) (h .loop .bins) (row h) (more h (c .before .loop-test .taken)) (h .loop .inv .1) (h .loop .inv .2)
 
 known-run-requires : tie.Need-known-run-requires Inv-loop μ-loop
-known-run-requires c κs = let a = c .before .before .before .before .before .args in
-    let l = c .before .before .loop in
-    let L = levels (a .v) (a .octets .now) in
-    let more : l .bins < length L = omega (arith, c .before .loop-test .taken, c .before .before .before .before .before .pre .1 .1) in
-    (omega arith, here-inside (a .v) (a .octets .now) (l .at) (l .bins) L more (l .inv .1) (l .inv .2), omega (arith, c .before .before .before .before .before .pre .0 .2, here-fits (a .v) (a .octets .now) (l .at) (l .bins) L more (l .inv .1) (l .inv .2)))
+known-run-requires c κs = let h = c .before .before in
+    let p = start h .pre .0 in
+    let k = here-known (start h .args .v) (start h .args .octets .now) (h .loop .at) (h .loop .bins) (row h) (more h (c .before .loop-test .taken)) (h .loop .inv .1) (h .loop .inv .2) (p .2) in
+    (p .0, k .0, k .1)
 
 add-end : tie.Need-add-end Inv-loop μ-loop
-add-end c = record { fits = omega (arith, fits-in (c .before)) }
+add-end c = record { fits = omega (arith, past (c .before), start (c .before .before .before .before) .pre .0 .2) }
 
 above-requires : tie.Need-above-requires Inv-loop μ-loop
 above-requires c κs = search needs
@@ -66,40 +85,43 @@ above-requires-2 : tie.Need-above-requires-2 Inv-loop μ-loop
 above-requires-2 c κs = search needs
 
 stamp-requires : tie.Need-stamp-requires Inv-loop μ-loop
-stamp-requires c κs = let f = fits-in (c .before .before .before .before .before) in
-    (omega (arith, c .before .before .above .ensures, c .above2 .ensures, c .before .lesser .ensures), omega (arith, c .above2 .ensures, c .before .lesser .ensures, size (c .before .before .before .before .before .before .before .before), c .before .before .before .before .before .before .before .before .before .before .before .pre .1 .2, f))
+stamp-requires c κs =
+    let p = past (c .before .before .before .before .before) in
+    let h = c .before .before .before .before .before .before .before .before in
+    (omega (arith, c .before .before .above .ensures, c .above2 .ensures, c .before .lesser .ensures, p, c .before .before .before .before .before .before .before .loop-test .taken), omega (arith, c .above2 .ensures, c .before .lesser .ensures, size h, start h .pre .1 .2, p))
 
 loop-less : tie.Need-loop-less Inv-loop μ-loop
-loop-less c = omega (arith, fits-in (c .before .before .before .before .before .before .before .before), c .before .before .before .before .before .before .before .before .before .before .loop-test .taken)
+loop-less c = omega (arith, past (c .before .before .before .before .before .before .before .before), c .before .before .before .before .before .before .before .before .before .before .loop-test .taken)
 
 loop-again : tie.Need-loop-again Inv-loop μ-loop
-loop-again c = let a = c .before .before .before .before .before .before .before .before .before .before .before .before .before .before .args in
-    let l = c .before .before .before .before .before .before .before .before .before .before .before .loop in
-    let L = levels (a .v) (a .octets .now) in
-    let r = c .before .before .before .before .before .before .before .before .known-run .ensures in
-    let len = c .before .before .before .before .before .before .before .before .known-run .result .len in
-    let x = getD (a .octets .now) (l .at) 0 in
-    let more : l .bins < length L = omega (arith, c .before .before .before .before .before .before .before .before .before .before .loop-test .taken, c .before .before .before .before .before .before .before .before .before .before .before .before .before .before .pre .1 .1) in
-    let under : min (l .bins) (a .b) ≡ l .bins = omega (arith, c .before .before .before .before .before .before .before .before .before .before .loop-test .taken) in
-    let have = l .inv .3 ∙ ap (λ (n : ℕ). front (between (a .a) n L) (a .out .now)) under in
+loop-again c =
+    let h = c .before .before .before .before .before .before .before .before .before .before .before in
+    let s = start h in
+    let l = h .loop in
+    let r = c .before .before .before .before .before .before .before .before .known-run in
+    let p = past (c .before .before .before .before .before .before .before .before) in
+    let len = runLen (s .args .v) (s .args .octets .now) (l .at) in
+    let x = getD (s .args .octets .now) (l .at) 0 in
+    let under : min (l .bins) (s .args .b) ≡ l .bins = omega (arith, c .before .before .before .before .before .before .before .before .before .before .loop-test .taken) in
+    let have = l .inv .3 ∙ ap (λ (n : ℕ). front (between (s .args .a) n (row h)) (s .args .out .now)) under in
     let lo = c .before .before .before .before .before .above .ensures in
-    let hi = c .before .before .before .above2 .ensures ∙ ap (λ (n : ℕ). n - a .a) (c .before .before .before .before .lesser .ensures) in (
-      omega (arith, fits-in (c .before .before .before .before .before .before .before .before)),
-      ap (λ (n : ℕ). drop (l .bins + n) L) (r .0) ∙ here-rest (a .v) (a .octets .now) (l .at) (l .bins) L more (l .inv .1) (l .inv .2) ∙ ap (λ (n : ℕ). levels (a .v) (drop n (a .octets .now))) (sym (r .1)),
-      ap (λ (n : ℕ). opens (a .v) (drop n (a .octets .now))) (r .1) ∙ here-opened (a .v) (a .octets .now) (l .at) (l .bins) L more (l .inv .1) (l .inv .2),
+    let hi = c .before .before .before .above2 .ensures ∙ ap (λ (n : ℕ). n - s .args .a) (c .before .before .before .before .lesser .ensures) in (
+      p .1,
+      p .2,
+      p .3,
       c .before .before .stamp .ensures
           ∙ (λ i. placed (have i) (lo i) (replicate (hi i - lo i) x))
-          ∙ painted L (drop (l .bins + runLen (a .v) (a .octets .now) (l .at)) L) (a .out .now) (a .a) (l .bins) (min (l .bins + len) (a .b)) (runLen (a .v) (a .octets .now) (l .at)) x (omega (arith, c .before .before .before .before .before .before .before .before .before .before .loop-test .taken)) (here-run (a .v) (a .octets .now) (l .at) (l .bins) L more (l .inv .1) (l .inv .2)) (omega (arith, r .0)) (l .inv .0),
+          ∙ painted (row h) (drop (l .bins + len) (row h)) (s .args .out .now) (s .args .a) (l .bins) (min (l .bins + r .result .len) (s .args .b)) len x (omega (arith, c .before .before .before .before .before .before .before .before .before .before .loop-test .taken)) (here-run (s .args .v) (s .args .octets .now) (l .at) (l .bins) (row h) (more h (c .before .before .before .before .before .before .before .before .before .before .loop-test .taken)) (l .inv .1) (l .inv .2)) (omega (arith, r .ensures .0)) (l .inv .0),
     )
 
 same-length : tie.Need-same-length Inv-loop μ-loop
 same-length c = size (c .before)
 
-returns : tie.Need-returns Inv-loop μ-loop
-returns c = let a = c .before .before .before .before .args in
-    let l = c .before .loop in
-    let all : min (l .bins) (a .b) ≡ a .b = omega arith in
-    l .inv .3 ∙ ap (λ (n : ℕ). front (between (a .a) n (levels (a .v) (a .octets .now))) (a .out .now)) all
+returns-2 : tie.Need-returns-2 Inv-loop μ-loop
+returns-2 c = let h = c .before in
+    let s = start h in
+    let all : min (h .loop .bins) (s .args .b) ≡ s .args .b = omega (arith, c .loop-test .left) in
+    h .loop .inv .3 ∙ ap (λ (n : ℕ). front (between (s .args .a) n (row h)) (s .args .out .now)) all
 
 pub fill-spec : {M : Type 1} → statement M
 fill-spec =
@@ -107,6 +129,8 @@ fill-spec =
     (tie.spec
     Inv-loop
     μ-loop
+    returns
+    seek-requires
     loop-holds
     shared-slice-read-level
     known-run-requires
@@ -118,4 +142,4 @@ fill-spec =
     loop-less
     loop-again
     same-length
-    returns)
+    returns-2)
