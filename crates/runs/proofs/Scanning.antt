@@ -1,4 +1,4 @@
--- The scan's pass, octet by octet, with its bins and its weight as arguments: it finds what the definition gives.
+-- The scan's pass, octet by octet, with the bins still to come and the weight as arguments: it finds what the definition gives.
 use Prim.Native.Nat.{ℕ, _+_, _-_, _*_, _≤_, _<_}
 use mathlib.Core.Path.{_≡_, refl, sym, ap, _∙_}
 use mathlib.Core.Logic.{⊎-elim}
@@ -15,141 +15,147 @@ use Rattle.runs.specs.declared.Scan.{Scan}
 use Rattle.runs.specs.declared.Scan.the-variants.{Exact, Off}
 use Rattle.runs.proofs.Bins.{either, digitSum-open, rest, rest-nil, rest-open, rest-digit, rest-right, gives-nil, gives-level, gives-above, Weighs, weighs-same, next-weighs, same-digit, drop-at}
 
--- all octets read, with so many bins
+-- so many bins where so many are wanted
 abbrev pub verdict : ℕ → ℕ → Scan
-verdict n bins = cond (eqb bins n) Exact Off
+verdict bins left = cond (eqb bins left) Exact Off
 
 -- in a run, the next digit's weight w
-unfoldable pub inRun : ℕ → ℕ → ℕ → ℕ → List ℕ → Scan
-inRun v n bins w [] = verdict n bins
-inRun v n bins w (o ∷ s) =
+unfoldable pub inRun : ℕ → ℕ → ℕ → List ℕ → Scan
+inRun v left w [] = verdict 0 left
+inRun v left w (o ∷ s) =
     cond (leb o v)
-    (cond (leb n bins) Off (inRun v n (bins + 1) 1 s))
-    (cond (ltb n (bins + (o - v - 1) * w)) Off (inRun v n (bins + (o - v - 1) * w) (cond (leb w n) (w * base v) w) s))
+    (cond (leb 1 left) (inRun v (left - 1) 1 s) Off)
+    (cond (ltb left ((o - v - 1) * w)) Off (inRun v (left - (o - v - 1) * w) (cond (leb w 2097152) (w * base v) w) s))
 
 -- where a level has to stand
-unfoldable pub atRun : ℕ → ℕ → ℕ → List ℕ → Scan
-atRun v n bins [] = verdict n bins
-atRun v n bins (o ∷ s) = cond (leb o v) (cond (leb n bins) Off (inRun v n (bins + 1) 1 s)) Off
+unfoldable pub atRun : ℕ → ℕ → List ℕ → Scan
+atRun v left [] = verdict 0 left
+atRun v left (o ∷ s) = cond (leb o v) (cond (leb 1 left) (inRun v (left - 1) 1 s) Off) Off
 
-inRun-nil : (v n bins w : ℕ) → inRun v n bins w [] ≡ verdict n bins
+inRun-nil : (v left w : ℕ) → inRun v left w [] ≡ verdict 0 left
 unfolding inRun
-inRun-nil v n bins w = refl
+inRun-nil v left w = refl
 
-atRun-nil : (v n bins : ℕ) → atRun v n bins [] ≡ verdict n bins
+atRun-nil : (v left : ℕ) → atRun v left [] ≡ verdict 0 left
 unfolding atRun
-atRun-nil v n bins = refl
+atRun-nil v left = refl
 
-module _ (v n bins w o : ℕ) (s : List ℕ) where
-  inRun-full : o ≤ v → n ≤ bins → inRun v n bins w (o ∷ s) ≡ Off
+module _ (v left w o : ℕ) (s : List ℕ) where
+  inRun-full : o ≤ v → left < 1 → inRun v left w (o ∷ s) ≡ Off
   unfolding inRun
-  inRun-full h g = simp (le-leb o v h, le-leb n bins g)
+  inRun-full h g = simp (le-leb o v h, lt-leb 1 left g)
 
-  inRun-open : o ≤ v → bins < n → inRun v n bins w (o ∷ s) ≡ inRun v n (bins + 1) 1 s
+  inRun-open : o ≤ v → 1 ≤ left → inRun v left w (o ∷ s) ≡ inRun v (left - 1) 1 s
   unfolding inRun
-  inRun-open h g = simp (le-leb o v h, lt-leb n bins g)
+  inRun-open h g = simp (le-leb o v h, le-leb 1 left g)
 
-  inRun-past : v < o → n < bins + (o - v - 1) * w → inRun v n bins w (o ∷ s) ≡ Off
+  inRun-past : v < o → left < (o - v - 1) * w → inRun v left w (o ∷ s) ≡ Off
   unfolding inRun
-  inRun-past h g = simp (lt-leb o v h, lt-ltb n (bins + (o - v - 1) * w) g)
+  inRun-past h g = simp (lt-leb o v h, lt-ltb left ((o - v - 1) * w) g)
 
-  inRun-digit : v < o → bins + (o - v - 1) * w ≤ n → inRun v n bins w (o ∷ s) ≡ inRun v n (bins + (o - v - 1) * w) (cond (leb w n) (w * base v) w) s
+  inRun-digit : v < o → (o - v - 1) * w ≤ left → inRun v left w (o ∷ s) ≡ inRun v (left - (o - v - 1) * w) (cond (leb w 2097152) (w * base v) w) s
   unfolding inRun
-  inRun-digit h g = simp (lt-leb o v h, le-ltb n (bins + (o - v - 1) * w) g)
+  inRun-digit h g = simp (lt-leb o v h, le-ltb left ((o - v - 1) * w) g)
 
-  atRun-above : v < o → atRun v n bins (o ∷ s) ≡ Off
+  atRun-above : v < o → atRun v left (o ∷ s) ≡ Off
   unfolding atRun
   atRun-above h = simp (lt-leb o v h)
 
-  atRun-level : o ≤ v → atRun v n bins (o ∷ s) ≡ inRun v n bins w (o ∷ s)
+  atRun-level : o ≤ v → atRun v left (o ∷ s) ≡ inRun v left w (o ∷ s)
   unfolding atRun inRun
   atRun-level h = simp (le-leb o v h)
 
-over : (x n : ℕ) → n < x → Off ≡ verdict n x
-over x n h = simp (ne-eqb x n (omega arith))
+over : (x left : ℕ) → left < x → Off ≡ verdict x left
+over x left h = simp (ne-eqb x left (omega arith))
 
-same-verdict : (n : ℕ) {x y : ℕ} → x ≡ y → verdict n x ≡ verdict n y
-same-verdict n p = λ k. verdict n (p k)
+-- d of the bins taken, as many are wanted less
+taken : (x d y left : ℕ) → d ≤ left → y ≡ d + x → verdict x (left - d) ≡ verdict y left
+taken x d y left h e =
+    either x (left - d)
+    (λ g. either (left - d) x (λ f. simp (eq-eqb x (left - d) (omega arith), eq-eqb y left (omega arith))) (λ f. simp (ne-eqb x (left - d) (omega arith), ne-eqb y left (omega arith))))
+    (λ g. simp (ne-eqb x (left - d) (omega arith), ne-eqb y left (omega arith)))
 
-module _ (v n : ℕ) (low : v ≤ 253) where
-  inRun-right : (s : List ℕ) (bins w W : ℕ) → bins ≤ n → Weighs n w W → inRun v n bins w s ≡ verdict n (bins + rest v W s)
-  inRun-right [] bins w W hb hw = inRun-nil v n bins w ∙ same-verdict n (omega (arith, rest-nil v W))
-  inRun-right (o ∷ s) bins w W hb hw =
+module _ (v : ℕ) (low : v ≤ 253) where
+  inRun-right : (s : List ℕ) (left w W : ℕ) → left ≤ 2097152 → Weighs 2097152 w W → inRun v left w s ≡ verdict (rest v W s) left
+  inRun-right [] left w W few hw = inRun-nil v left w ∙ ap (λ (x : ℕ). verdict x left) (sym (rest-nil v W))
+  inRun-right (o ∷ s) left w W few hw =
       either o v
       (λ h.
-      either n bins
-      (λ g. inRun-full v n bins w o s h g ∙ over (bins + rest v W (o ∷ s)) n (omega (arith, rest-open v W o s h)))
-      (λ g. inRun-open v n bins w o s h g ∙ inRun-right s (bins + 1) 1 1 (omega arith) (weighs-same n 1) ∙ same-verdict n (omega (arith, rest-open v W o s h))))
+      either 1 left
+      (λ g. inRun-open v left w o s h g ∙ inRun-right s (left - 1) 1 1 (omega arith) (weighs-same 2097152 1) ∙ taken (rest v 1 s) 1 (rest v W (o ∷ s)) left g (rest-open v W o s h))
+      (λ g. inRun-full v left w o s h g ∙ over (rest v W (o ∷ s)) left (omega (arith, rest-open v W o s h))))
       (λ h.
+      let d : ℕ = (o - v - 1) * w in
+      let sum = rest-digit v W o s h in
       ⊎-elim
       (λ e.
-      either (bins + (o - v - 1) * w) n
+      either d left
       (λ g.
-      inRun-digit v n bins w o s h g
-      ∙ inRun-right s (bins + (o - v - 1) * w) (cond (leb w n) (w * base v) w) (W * base v) g (next-weighs v n low w W hw)
-      ∙ same-verdict n (omega (arith, rest-digit v W o s h)))
-      (λ g. inRun-past v n bins w o s h g ∙ over (bins + rest v W (o ∷ s)) n (omega (arith, rest-digit v W o s h))))
-      (λ g. inRun-past v n bins w o s h (g .0) ∙ over (bins + rest v W (o ∷ s)) n (omega (arith, rest-digit v W o s h)))
-      (same-digit v n low (o - v - 1) bins w W hw))
+      inRun-digit v left w o s h g
+      ∙ inRun-right s (left - d) (cond (leb w 2097152) (w * base v) w) (W * base v) (omega arith) (next-weighs v 2097152 low w W hw)
+      ∙ taken (rest v (W * base v) s) d (rest v W (o ∷ s)) left g (omega (arith, sum, e)))
+      (λ g. inRun-past v left w o s h g ∙ over (rest v W (o ∷ s)) left (omega (arith, sum, e))))
+      (λ g. inRun-past v left w o s h (omega (arith, g .0)) ∙ over (rest v W (o ∷ s)) left (omega (arith, sum, g .1)))
+      (same-digit v 2097152 low (o - v - 1) 0 w W hw))
 
   -- from the first octet on, the pass answers what the octets give
-  pub atRun-right : (s : List ℕ) → atRun v n 0 s ≡ scanned v n s
-  atRun-right [] = atRun-nil v n 0 ∙ ap (λ (b : Bool). cond b Exact Off) (sym (gives-nil v n))
-  atRun-right (o ∷ s) =
+  pub atRun-right : (n : ℕ) (s : List ℕ) → n ≤ 2097152 → atRun v n s ≡ scanned v n s
+  atRun-right n [] few = atRun-nil v n ∙ ap (λ (b : Bool). cond b Exact Off) (sym (gives-nil v n))
+  atRun-right n (o ∷ s) few =
       either o v
       (λ h.
-      let total : 0 + rest v 1 (o ∷ s) ≡ length (levels v (o ∷ s)) =
+      let total : rest v 1 (o ∷ s) ≡ length (levels v (o ∷ s)) =
       omega (arith, rest-right v 0 (o ∷ s), digitSum-open v 0 o s h, ap (λ (w : ℕ). rest v w (o ∷ s)) (pow-zero (base v))) in
-      atRun-level v n 0 1 o s h
-      ∙ inRun-right (o ∷ s) 0 1 1 (omega arith) (weighs-same n 1)
-      ∙ same-verdict n total
+      atRun-level v n 1 o s h
+      ∙ inRun-right (o ∷ s) n 1 1 few (weighs-same 2097152 1)
+      ∙ ap (λ (x : ℕ). verdict x n) total
       ∙ ap (λ (b : Bool). cond b Exact Off) (sym (gives-level v n o s h)))
-      (λ h. atRun-above v n 0 1 o s h ∙ ap (λ (b : Bool). cond b Exact Off) (sym (gives-above v n o s h)))
+      (λ h. atRun-above v n 1 o s h ∙ ap (λ (b : Bool). cond b Exact Off) (sym (gives-above v n o s h)))
 
 -- no octets give no bins
-pub none-given : (v n : ℕ) (s : List ℕ) → length s ≡ 0 → scanned v n s ≡ verdict n 0
+pub none-given : (v n : ℕ) (s : List ℕ) → length s ≡ 0 → scanned v n s ≡ verdict 0 n
 none-given v n s h = ap (λ (l : List ℕ). scanned v n l) (sym (take-all 0 s (omega arith))) ∙ ap (λ (b : Bool). cond b Exact Off) (gives-nil v n)
 
-pub all-read : (n bins : ℕ) → bins ≡ n → verdict n bins ≡ Exact
-all-read n bins e = simp (eq-eqb bins n e)
+pub all-read : (left : ℕ) → left ≡ 0 → verdict 0 left ≡ Exact
+all-read left e = simp (eq-eqb 0 left (sym e))
 
-pub too-few : (n bins : ℕ) → (bins ≡ n → ⊥) → verdict n bins ≡ Off
-too-few n bins e = simp (ne-eqb bins n e)
+pub too-few : (left : ℕ) → (left ≡ 0 → ⊥) → verdict 0 left ≡ Off
+too-few left e = simp (ne-eqb 0 left (λ h. e (sym h)))
 
 -- ---- the pass along the octets, o the next one, at the place i: X is the answer for the whole
-ended : (v n bins w : ℕ) (octets : List ℕ) (i : ℕ) (X : Scan) → length octets ≤ i → inRun v n bins w (drop i octets) ≡ X → X ≡ verdict n bins
-ended v n bins w octets i X h e = sym (rw (drop-of-length-le octets h) at e) ∙ inRun-nil v n bins w
+ended : (v left w : ℕ) (octets : List ℕ) (i : ℕ) (X : Scan) → length octets ≤ i → inRun v left w (drop i octets) ≡ X → X ≡ verdict 0 left
+ended v left w octets i X h e = sym (rw (drop-of-length-le octets h) at e) ∙ inRun-nil v left w
 
 -- where a run has to open
-module _ (v n bins : ℕ) (octets : List ℕ) (i o : ℕ) (X : Scan) (inside : i < length octets) (is : o ≡ getD octets i 0) where
+module _ (v left : ℕ) (octets : List ℕ) (i o : ℕ) (X : Scan) (inside : i < length octets) (is : o ≡ getD octets i 0) where
   next-octet : drop i octets ≡ o ∷ drop (i + 1) octets
   next-octet = drop-at octets i inside ∙ ap (λ (x : ℕ). x ∷ drop (i + 1) octets) (sym is)
 
-  pub above-fails : v < o → atRun v n bins (drop i octets) ≡ X → X ≡ Off
-  above-fails high e = sym (rw next-octet at e) ∙ atRun-above v n bins 1 o _ high
+  pub above-fails : v < o → atRun v left (drop i octets) ≡ X → X ≡ Off
+  above-fails high e = sym (rw next-octet at e) ∙ atRun-above v left 1 o _ high
 
-  pub full-fails : o ≤ v → n ≤ bins → atRun v n bins (drop i octets) ≡ X → X ≡ Off
-  full-fails low full e = sym (rw next-octet at e) ∙ atRun-level v n bins 1 o _ low ∙ inRun-full v n bins 1 o _ low full
+  pub full-fails : o ≤ v → left < 1 → atRun v left (drop i octets) ≡ X → X ≡ Off
+  full-fails low full e = sym (rw next-octet at e) ∙ atRun-level v left 1 o _ low ∙ inRun-full v left 1 o _ low full
 
-  pub level-step : o ≤ v → bins < n → atRun v n bins (drop i octets) ≡ X → inRun v n (bins + 1) 1 (drop (i + 1) octets) ≡ X
-  level-step low more e = sym (inRun-open v n bins 1 o _ low more) ∙ sym (atRun-level v n bins 1 o _ low) ∙ (rw next-octet at e)
+  pub level-step : o ≤ v → 1 ≤ left → atRun v left (drop i octets) ≡ X → inRun v (left - 1) 1 (drop (i + 1) octets) ≡ X
+  level-step low more e = sym (inRun-open v left 1 o _ low more) ∙ sym (atRun-level v left 1 o _ low) ∙ (rw next-octet at e)
 
-  pub level-last : o ≤ v → bins < n → length octets ≤ i + 1 → atRun v n bins (drop i octets) ≡ X → X ≡ verdict n (bins + 1)
-  level-last low more end e = ended v n (bins + 1) 1 octets (i + 1) X end (level-step low more e)
+  pub level-last : o ≤ v → 1 ≤ left → length octets ≤ i + 1 → atRun v left (drop i octets) ≡ X → X ≡ verdict 0 (left - 1)
+  level-last low more end e = ended v (left - 1) 1 octets (i + 1) X end (level-step low more e)
 
 -- in a run
-module _ (v n bins w : ℕ) (octets : List ℕ) (i o : ℕ) (X : Scan) (inside : i < length octets) (is : o ≡ getD octets i 0) where
+module _ (v left w : ℕ) (octets : List ℕ) (i o : ℕ) (X : Scan) (inside : i < length octets) (is : o ≡ getD octets i 0) where
   here : drop i octets ≡ o ∷ drop (i + 1) octets
-  here = next-octet v n bins octets i o X inside is
+  here = next-octet v left octets i o X inside is
 
-  pub digits-level : o ≤ v → inRun v n bins w (drop i octets) ≡ X → atRun v n bins (drop i octets) ≡ X
-  digits-level low e = rw here (atRun-level v n bins w o _ low ∙ (rw here at e))
+  pub digits-level : o ≤ v → inRun v left w (drop i octets) ≡ X → atRun v left (drop i octets) ≡ X
+  digits-level low e = rw here (atRun-level v left w o _ low ∙ (rw here at e))
 
-  pub past-fails : v < o → n < bins + (o - v - 1) * w → inRun v n bins w (drop i octets) ≡ X → X ≡ Off
-  past-fails high past e = sym (rw here at e) ∙ inRun-past v n bins w o _ high past
+  pub past-fails : v < o → left < (o - v - 1) * w → inRun v left w (drop i octets) ≡ X → X ≡ Off
+  past-fails high past e = sym (rw here at e) ∙ inRun-past v left w o _ high past
 
-  pub digit-step : v < o → bins + (o - v - 1) * w ≤ n → inRun v n bins w (drop i octets) ≡ X → inRun v n (bins + (o - v - 1) * w) (cond (leb w n) (w * base v) w) (drop (i + 1) octets) ≡ X
-  digit-step high within e = sym (inRun-digit v n bins w o _ high within) ∙ (rw here at e)
+  pub digit-step : v < o → (o - v - 1) * w ≤ left → inRun v left w (drop i octets) ≡ X → inRun v (left - (o - v - 1) * w) (cond (leb w 2097152) (w * base v) w) (drop (i + 1) octets) ≡ X
+  digit-step high within e = sym (inRun-digit v left w o _ high within) ∙ (rw here at e)
 
-  pub digit-last : v < o → bins + (o - v - 1) * w ≤ n → length octets ≤ i + 1 → inRun v n bins w (drop i octets) ≡ X → X ≡ verdict n (bins + (o - v - 1) * w)
-  digit-last high within end e = ended v n (bins + (o - v - 1) * w) (cond (leb w n) (w * base v) w) octets (i + 1) X end (digit-step high within e)
+  pub digit-last : v < o → (o - v - 1) * w ≤ left → length octets ≤ i + 1 → inRun v left w (drop i octets) ≡ X → X ≡ verdict 0 (left - (o - v - 1) * w)
+  digit-last high within end e = ended v (left - (o - v - 1) * w) (cond (leb w 2097152) (w * base v) w) octets (i + 1) X end (digit-step high within e)

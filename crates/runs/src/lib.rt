@@ -16,8 +16,9 @@ pub enum Scan {
     Off,
 }
 
-// One pass over the octets, runs outside and digits inside: an octet that opens no run, or bins past n, leave it at once.
-// The weight grows no more once it is over n: a digit other than zero then passes n, and a tail of zero digits cannot overflow it.
+// One pass over the octets, runs outside and digits inside: an octet that opens no run, or adds more bins than are left, leaves it at once.
+// The weight grows no more once it is over the bins of the largest cut: a digit other than zero then adds more than are left, and a tail of
+// zero digits cannot overflow it.
 pub fn scan_runs(octets: &[u8], v: u8, n: usize) -> Scan
     requires { ⌜ (v ≤ 253) × (n ≤ 2097152) ⌝ }
     ensures { λ r. ⌜ r ≡ scanned v n (now (octets .entry)) ⌝ }
@@ -30,30 +31,31 @@ pub fn scan_runs(octets: &[u8], v: u8, n: usize) -> Scan
     }
     let base = 255 - v as usize; // B
     let mut i: usize = 0;
-    let mut bins: usize = 0;
+    let mut left = n; // bins still to come
     let mut o = octets[0];
     'runs: while o <= v {
-        bins += 1;
-        i += 1;
-        if n < bins {
+        if left < 1 {
             break 'runs;
         }
+        left -= 1;
+        i += 1;
         if octets.len() <= i {
             break 'runs;
         }
         o = octets[i];
         let mut weight: usize = 1;
         'digits: while v < o {
-            bins += (o - v - 1) as usize * weight;
-            i += 1;
-            if n < bins {
+            let more = (o - v - 1) as usize * weight;
+            if left < more {
                 break 'runs;
             }
+            left -= more;
+            i += 1;
             if octets.len() <= i {
                 break 'runs;
             }
             o = octets[i];
-            if weight <= n {
+            if weight <= 2097152 {
                 weight *= base;
             }
         }
@@ -61,7 +63,7 @@ pub fn scan_runs(octets: &[u8], v: u8, n: usize) -> Scan
     if i < octets.len() {
         return Scan::Off;
     }
-    if bins == n {
+    if left == 0 {
         return Scan::Exact;
     }
     Scan::Off

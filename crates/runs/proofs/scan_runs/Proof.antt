@@ -1,4 +1,4 @@
--- `scan_runs` meets its contract: what is left of the octets, with the bins and the weight so far, answers what all of them do.
+-- `scan_runs` meets its contract: what is left of the octets, with the bins still to come and the weight so far, answers what all of them do.
 use Prim.Native.Nat.{_-_, _*_, _≤_, _<_}
 use mathlib.Core.Path.{_≡_, refl, sym, _∙_}
 use mathlib.Core.Logic.{_⊎_, inl, inr, ⊎-elim}
@@ -15,16 +15,16 @@ use Rattle.runs.proofs.scan_runs.Statement.{statement}
 use Rattle.runs.proofs.scan_runs.Tie as tie
 
 abbrev Inv-digits : tie.InvT-digits
-Inv-digits octets v n base i₀ bins₀ o₀ weight₀ i bins o weight = (i < length octets) × (i₀ ≤ i) × (bins ≤ n) × (weight ≤ 2097152 * 255) × (o ≡ getD octets i 0) × (inRun v n bins weight (drop i octets) ≡ scanned v n octets)
+Inv-digits octets v n base i₀ left₀ o₀ weight₀ i left o weight = (i < length octets) × (i₀ ≤ i) × (left ≤ n) × (weight ≤ 2097152 * 255) × (o ≡ getD octets i 0) × (inRun v left weight (drop i octets) ≡ scanned v n octets)
 
 abbrev μ-digits : tie.MeasureT-digits
-μ-digits octets v n base i₀ bins₀ o₀ weight₀ i bins o weight = length octets - i
+μ-digits octets v n base i₀ left₀ o₀ weight₀ i left o weight = length octets - i
 
 abbrev Inv-runs : tie.InvT-runs
-Inv-runs octets v n base i₀ bins₀ o₀ i bins o = (i < length octets) × (bins ≤ n) × (o ≡ getD octets i 0) × (atRun v n bins (drop i octets) ≡ scanned v n octets)
+Inv-runs octets v n base i₀ left₀ o₀ i left o = (i < length octets) × (left ≤ n) × (o ≡ getD octets i 0) × (atRun v left (drop i octets) ≡ scanned v n octets)
 
 abbrev μ-runs : tie.MeasureT-runs
-μ-runs octets v n base i₀ bins₀ o₀ i bins o = length octets - i
+μ-runs octets v n base i₀ left₀ o₀ i left o = length octets - i
 
 -- the digit in hand is an octet
 octet : (c : tie.In-digits Inv-digits μ-digits Inv-runs μ-runs) → c .before .digits .o ≤ 255
@@ -32,11 +32,11 @@ octet c = omega (arith, c .before .digits .inv .4, c .before .before .shared-sli
 
 returns : tie.Need-returns Inv-digits μ-digits Inv-runs μ-runs
 returns c = let a = c .before .before .args in
-    sym (none-given (a .v) (a .n) (a .octets .now) (c .before .if1 .taken) ∙ all-read (a .n) 0 (sym (c .if2 .taken)))
+    sym (none-given (a .v) (a .n) (a .octets .now) (c .before .if1 .taken) ∙ all-read (a .n) (c .if2 .taken))
 
 returns-2 : tie.Need-returns-2 Inv-digits μ-digits Inv-runs μ-runs
 returns-2 c = let a = c .before .before .args in
-    sym (none-given (a .v) (a .n) (a .octets .now) (c .before .if1 .taken) ∙ too-few (a .n) 0 (λ e. c .if2 .left (sym e)))
+    sym (none-given (a .v) (a .n) (a .octets .now) (c .before .if1 .taken) ∙ too-few (a .n) (c .if2 .left))
 
 sub-base : tie.Need-sub-base Inv-digits μ-digits Inv-runs μ-runs
 sub-base c = search needs
@@ -45,11 +45,8 @@ shared-slice-read-o : tie.Need-shared-slice-read-o Inv-digits μ-digits Inv-runs
 shared-slice-read-o c = search needs
 
 runs-holds : tie.Need-runs-holds Inv-digits μ-digits Inv-runs μ-runs
-runs-holds c = let a = c .before .before .args in
-    (omega arith, omega arith, refl, atRun-right (a .v) (a .n) (omega arith) (a .octets .now))
-
-add-bins : tie.Need-add-bins Inv-digits μ-digits Inv-runs μ-runs
-add-bins c = search needs
+runs-holds c = let s = c .before .before in
+    (omega arith, omega arith, refl, atRun-right (s .args .v) (omega arith) (s .args .n) (s .args .octets .now) (omega arith))
 
 add-i : tie.Need-add-i Inv-digits μ-digits Inv-runs μ-runs
 add-i c = search needs
@@ -60,7 +57,7 @@ shared-slice-read-o-2 c = search needs
 digits-holds : tie.Need-digits-holds Inv-digits μ-digits Inv-runs μ-runs
 digits-holds c = let a = c .before .before .before .before .before .before .before .args in
     let r = c .before .before .before .before .runs in
-    (omega arith, omega arith, omega arith, omega arith, refl, level-step (a .v) (a .n) (r .bins) (a .octets .now) (r .i) (r .o) _ (r .inv .0) (r .inv .2) (omega arith) (omega arith) (r .inv .3))
+    (omega arith, omega arith, omega arith, omega arith, refl, level-step (a .v) (r .left) (a .octets .now) (r .i) (r .o) _ (r .inv .0) (r .inv .2) (omega arith) (omega arith) (r .inv .3))
 
 runs-less : tie.Need-runs-less Inv-digits μ-digits Inv-runs μ-runs
 runs-less c = search needs
@@ -68,24 +65,19 @@ runs-less c = search needs
 runs-again : tie.Need-runs-again Inv-digits μ-digits Inv-runs μ-runs
 runs-again c = let a = c .before .before .before .before .before .before .before .before .before .args in
     let d = c .before .digits in
-    (omega arith, omega arith, d .inv .4, digits-level (a .v) (a .n) (d .bins) (d .weight) (a .octets .now) (d .i) (d .o) _ (d .inv .0) (d .inv .4) (omega arith) (d .inv .5))
+    (omega arith, omega arith, d .inv .4, digits-level (a .v) (d .left) (d .weight) (a .octets .now) (d .i) (d .o) _ (d .inv .0) (d .inv .4) (omega arith) (d .inv .5))
 
-sub-bins : tie.Need-sub-bins Inv-digits μ-digits Inv-runs μ-runs
-sub-bins c = search needs
+sub-more : tie.Need-sub-more Inv-digits μ-digits Inv-runs μ-runs
+sub-more c = search needs
 
-sub-bins-2 : tie.Need-sub-bins-2 Inv-digits μ-digits Inv-runs μ-runs
-sub-bins-2 c = search needs
+sub-more-2 : tie.Need-sub-more-2 Inv-digits μ-digits Inv-runs μ-runs
+sub-more-2 c = search needs
 
-cast-bins : tie.Need-cast-bins Inv-digits μ-digits Inv-runs μ-runs
-cast-bins c = omega (arith, octet c)
+cast-more : tie.Need-cast-more Inv-digits μ-digits Inv-runs μ-runs
+cast-more c = omega (arith, octet c)
 
-mul-bins : tie.Need-mul-bins Inv-digits μ-digits Inv-runs μ-runs
-mul-bins c = let a = c .before .before .before .before .before .before .before .before .before .args in
-    let d = c .before .digits in
-    record { fits = omega (arith, product (2097152 * 255) (d .o - a .v - 1) (d .weight) (omega (arith, octet c)) (omega arith)) }
-
-add-bins-2 : tie.Need-add-bins-2 Inv-digits μ-digits Inv-runs μ-runs
-add-bins-2 c = let a = c .before .before .before .before .before .before .before .before .before .args in
+mul-more : tie.Need-mul-more Inv-digits μ-digits Inv-runs μ-runs
+mul-more c = let a = c .before .before .before .before .before .before .before .before .before .args in
     let d = c .before .digits in
     record { fits = omega (arith, product (2097152 * 255) (d .o - a .v - 1) (d .weight) (omega (arith, octet c)) (omega arith)) }
 
@@ -106,8 +98,8 @@ digits-less c = search needs
 digits-again : tie.Need-digits-again Inv-digits μ-digits Inv-runs μ-runs
 digits-again c = let a = c .before .before .before .before .before .before .before .before .before .before .before .before .before .args in
     let d = c .before .before .before .before .before .digits in
-    let small : d .weight ≤ a .n = omega arith in
-    (omega arith, omega arith, omega arith, omega (arith, mul-le-mul {n₁ = d .weight} {m₁ = 255 - a .v} {n₂ = 2097152} {m₂ = 255} (omega arith) (omega arith)), refl, (simp (le-leb _ _ small) at (digit-step (a .v) (a .n) (d .bins) (d .weight) (a .octets .now) (d .i) (d .o) _ (d .inv .0) (d .inv .4) (omega arith) (omega arith) (d .inv .5))))
+    let small : d .weight ≤ 2097152 = omega arith in
+    (omega arith, omega arith, omega arith, omega (arith, mul-le-mul {n₁ = d .weight} {m₁ = 255 - a .v} {n₂ = 2097152} {m₂ = 255} (omega arith) (omega arith)), refl, (simp (le-leb _ _ small) at (digit-step (a .v) (d .left) (d .weight) (a .octets .now) (d .i) (d .o) _ (d .inv .0) (d .inv .4) (omega arith) (omega arith) (d .inv .5))))
 
 digits-less-2 : tie.Need-digits-less-2 Inv-digits μ-digits Inv-runs μ-runs
 digits-less-2 c = search needs
@@ -115,43 +107,40 @@ digits-less-2 c = search needs
 digits-again-2 : tie.Need-digits-again-2 Inv-digits μ-digits Inv-runs μ-runs
 digits-again-2 c = let a = c .before .before .before .before .before .before .before .before .before .before .before .before .before .args in
     let d = c .before .before .before .before .before .digits in
-    let large : a .n < d .weight = omega arith in
-    (omega arith, omega arith, omega arith, omega arith, refl, (simp (lt-leb _ _ large) at (digit-step (a .v) (a .n) (d .bins) (d .weight) (a .octets .now) (d .i) (d .o) _ (d .inv .0) (d .inv .4) (omega arith) (omega arith) (d .inv .5))))
+    let large : 2097152 < d .weight = omega arith in
+    (omega arith, omega arith, omega arith, omega arith, refl, (simp (lt-leb _ _ large) at (digit-step (a .v) (d .left) (d .weight) (a .octets .now) (d .i) (d .o) _ (d .inv .0) (d .inv .4) (omega arith) (omega arith) (d .inv .5))))
 
--- where the ways out meet: octets or bins fail, or all octets were read
-left : (c : tie.Left-runs Inv-digits μ-digits Inv-runs μ-runs) →
-    ((scanned (c .before .before .before .before .args .v) (c .before .before .before .before .args .n) (c .before .before .before .before .args .octets .now) ≡ Off) × ((c .runs-test .i < length (c .before .before .before .before .args .octets .now)) ⊎ (c .before .before .before .before .args .n < c .runs-test .bins)))
-    ⊎ ((length (c .before .before .before .before .args .octets .now) ≤ c .runs-test .i) × (scanned (c .before .before .before .before .args .v) (c .before .before .before .before .args .n) (c .before .before .before .before .args .octets .now) ≡ verdict (c .before .before .before .before .args .n) (c .runs-test .bins)))
-left c =
+-- where the ways out meet: an octet fails, or all octets were read
+out : (c : tie.Left-runs Inv-digits μ-digits Inv-runs μ-runs) → let a = c .before .before .before .before .args in
+    let whole = scanned (a .v) (a .n) (a .octets .now) in
+    ((whole ≡ Off) × (c .runs-test .i < length (a .octets .now))) ⊎ ((length (a .octets .now) ≤ c .runs-test .i) × (whole ≡ verdict 0 (c .runs-test .left)))
+out c =
     let a = c .before .before .before .before .args in
     let s = a .octets .now in
     let r = c .before .runs in
     ⊎-elim
-    (λ w. inl (above-fails (a .v) (a .n) (r .bins) s (r .i) (r .o) _ (r .inv .0) (r .inv .2) (w .0 .left) (r .inv .3), inl (omega (arith, w .1))))
+    (λ w. inl (above-fails (a .v) (r .left) s (r .i) (r .o) _ (r .inv .0) (r .inv .2) (w .0 .left) (r .inv .3), omega (arith, w .1)))
     (⊎-elim
-    (λ w. inl (full-fails (a .v) (a .n) (r .bins) s (r .i) (r .o) _ (r .inv .0) (r .inv .2) (w .0 .taken) (omega (arith, w .1 .taken)) (r .inv .3), inr (omega (arith, w .1 .taken, w .3))))
+    (λ w. inl (full-fails (a .v) (r .left) s (r .i) (r .o) _ (r .inv .0) (r .inv .2) (w .0 .taken) (w .1 .taken) (r .inv .3), omega (arith, w .2)))
     (⊎-elim
-    (λ w. inr (omega (arith, w .2 .taken, w .3), level-last (a .v) (a .n) (r .bins) s (r .i) (r .o) _ (r .inv .0) (r .inv .2) (w .0 .taken) (omega (arith, w .1 .left)) (w .2 .taken) (r .inv .3) ∙ (λ k. verdict (a .n) (sym (w .4) k))))
+    (λ w. inr (omega (arith, w .2 .taken, w .3), level-last (a .v) (r .left) s (r .i) (r .o) _ (r .inv .0) (r .inv .2) (w .0 .taken) (omega (arith, w .1 .left)) (w .2 .taken) (r .inv .3) ∙ (λ k. verdict 0 (sym (w .4) k))))
     (⊎-elim
     (λ w.
     let d = w .4 in
-    inl (past-fails (a .v) (a .n) (d .bins) (d .weight) s (d .i) (d .o) _ (d .inv .0) (d .inv .4) (w .5 .taken) (w .6 .taken) (d .inv .5), inr (omega (arith, w .6 .taken, w .8))))
+    inl (past-fails (a .v) (d .left) (d .weight) s (d .i) (d .o) _ (d .inv .0) (d .inv .4) (w .5 .taken) (w .6 .taken) (d .inv .5), omega (arith, w .7)))
     (λ w.
     let d = w .4 in
-    inr (omega (arith, w .7 .taken, w .8), digit-last (a .v) (a .n) (d .bins) (d .weight) s (d .i) (d .o) _ (d .inv .0) (d .inv .4) (w .5 .taken) (w .6 .left) (w .7 .taken) (d .inv .5) ∙ (λ k. verdict (a .n) (sym (w .9) k)))))))
+    inr (omega (arith, w .7 .taken, w .8), digit-last (a .v) (d .left) (d .weight) s (d .i) (d .o) _ (d .inv .0) (d .inv .4) (w .5 .taken) (w .6 .left) (w .7 .taken) (d .inv .5) ∙ (λ k. verdict 0 (sym (w .9) k)))))))
     (c .runs-test .came)
 
 returns-3 : tie.Need-returns-3 Inv-digits μ-digits Inv-runs μ-runs
-returns-3 c = ⊎-elim (λ w. sym (w .0)) (λ w. absurd (omega arith)) (left (c .before))
+returns-3 c = ⊎-elim (λ w. sym (w .0)) (λ w. absurd (omega arith)) (out (c .before))
 
 returns-4 : tie.Need-returns-4 Inv-digits μ-digits Inv-runs μ-runs
-returns-4 c = ⊎-elim
-    (λ w. absurd (⊎-elim (λ h. omega arith) (λ h. omega arith) (w .1)))
-    (λ w. sym (w .1 ∙ all-read _ _ (c .if9 .taken)))
-    (left (c .before .before))
+returns-4 c = ⊎-elim (λ w. absurd (omega arith)) (λ w. sym (w .1 ∙ all-read _ (c .if9 .taken))) (out (c .before .before))
 
 returns-5 : tie.Need-returns-5 Inv-digits μ-digits Inv-runs μ-runs
-returns-5 c = ⊎-elim (λ w. sym (w .0)) (λ w. sym (w .1 ∙ too-few _ _ (c .if9 .left))) (left (c .before .before))
+returns-5 c = ⊎-elim (λ w. sym (w .0)) (λ w. sym (w .1 ∙ too-few _ (c .if9 .left))) (out (c .before .before))
 
 pub scan-runs-spec : {M : Type 1} → statement M
 scan-runs-spec =
@@ -166,17 +155,15 @@ scan-runs-spec =
     sub-base
     shared-slice-read-o
     runs-holds
-    add-bins
     add-i
     shared-slice-read-o-2
     digits-holds
     runs-less
     runs-again
-    sub-bins
-    sub-bins-2
-    cast-bins
-    mul-bins
-    add-bins-2
+    sub-more
+    sub-more-2
+    cast-more
+    mul-more
     add-i-2
     shared-slice-read-o-3
     mul-weight
