@@ -146,7 +146,7 @@ module _ (v : ℕ) (s : List ℕ) (at bins : ℕ) (L : List ℕ) (more : bins < 
   pub here-inside : at < length s
   here-inside = level-inside v s at opened some-left
 
-  here-low : getD s at 0 ≤ v
+  pub here-low : getD s at 0 ≤ v
   here-low = level-low v s at opened some-left
 
   pub here-fits : bins + runLen v s at ≤ length L

@@ -9,53 +9,53 @@ use lib.Seq.{take-set-le, drop-set-lt, set-at, length-take-le, drop-cons, take-a
 use Rattle.runs.proofs.Bins.{either}
 use Rattle.runs.specs.Lent.{front, placed, between}
 
-pub placed-none : (d : List ℕ) (at : ℕ) → d ≡ placed d at []
+pub placed-none : {A : Type 0} (d : List A) (at : ℕ) → d ≡ placed d at []
 unfolding placed
 placed-none d at = sym (simp add-zero (take-append-drop at d))
 
-module _ (d : List ℕ) (at : ℕ) (P : List ℕ) where
+module _ {A : Type 0} (d : List A) (at : ℕ) (P : List A) where
   pub length-placed : at + length P ≤ length d → length (placed d at P) ≡ length d
   unfolding placed
   length-placed h = simp (length-append, length-take-le at d (omega arith), length-drop) (omega arith)
 
-  pub placed-more : (o : ℕ) → at + length P < length d → set (placed d at P) (at + length P) o ≡ placed d at (P ++ (o ∷ []))
+  pub placed-more : (o : A) → at + length P < length d → set (placed d at P) (at + length P) o ≡ placed d at (P ++ (o ∷ []))
   unfolding placed
   placed-more o h =
       let j : ℕ = at + length P in
       let size : length (P ++ (o ∷ [])) ≡ length P + 1 = length-append P (o ∷ []) in
       let next : suc j ≡ at + length (P ++ (o ∷ [])) = omega arith in
-      ap (λ (l : List ℕ). set (take at d ++ (P ++ l)) j o) (drop-cons d j 0 h)
-      ∙ ap (λ (l : List ℕ). set l j o) (sym (append-assoc (take at d) P (getD d j 0 ∷ drop (suc j) d)))
-      ∙ set-at (take at d ++ P) (getD d j 0) (drop (suc j) d) o j (simp (length-append, length-take-le at d (omega arith)) (omega arith))
+      ap (λ (l : List A). set (take at d ++ (P ++ l)) j o) (drop-cons d j o h)
+      ∙ ap (λ (l : List A). set l j o) (sym (append-assoc (take at d) P (getD d j o ∷ drop (suc j) d)))
+      ∙ set-at (take at d ++ P) (getD d j o) (drop (suc j) d) o j (simp (length-append, length-take-le at d (omega arith)) (omega arith))
       ∙ append-assoc (take at d) P (o ∷ drop (suc j) d)
-      ∙ ap (λ (l : List ℕ). take at d ++ l) (sym (append-assoc P (o ∷ []) (drop (suc j) d)))
+      ∙ ap (λ (l : List A). take at d ++ l) (sym (append-assoc P (o ∷ []) (drop (suc j) d)))
       ∙ ap (λ (n : ℕ). take at d ++ ((P ++ (o ∷ [])) ++ drop n d)) next
 
 -- a store where p is to stand makes no difference to it
-pub placed-set : (d : List ℕ) (at x : ℕ) (P : List ℕ) → 0 < length P → placed (set d at x) at P ≡ placed d at P
+pub placed-set : {A : Type 0} (d : List A) (at : ℕ) (x : A) (P : List A) → 0 < length P → placed (set d at x) at P ≡ placed d at P
 unfolding placed
 placed-set d at x P h = simp (take-set-le at d at x (omega arith), drop-set-lt (at + length P) d at x (omega arith))
 
-pub first-put : (d : List ℕ) (at x : ℕ) → at < length d → set d at x ≡ placed (set d at x) at (x ∷ [])
-first-put d at x h =
-    let start : at ≡ at + length {A = ℕ} [] = omega arith in
-    ap (λ (l : List ℕ). set l at x) (placed-none d at)
+pub first-put : {A : Type 0} (d : List A) (at : ℕ) (x : A) → at < length d → set d at x ≡ placed (set d at x) at (x ∷ [])
+first-put {A} d at x h =
+    let start : at ≡ at + length {A = A} [] = omega arith in
+    ap (λ (l : List A). set l at x) (placed-none d at)
     ∙ ap (λ (n : ℕ). set (placed d at []) n x) start
     ∙ placed-more d at [] x (omega arith)
     ∙ sym (placed-set d at x (x ∷ []) (omega arith))
 
 -- what is placed where the front ends makes the front longer
-pub placed-front : (P d p : List ℕ) → placed (front P d) (length P) p ≡ front (P ++ p) d
+pub placed-front : {A : Type 0} (P d p : List A) → placed (front P d) (length P) p ≡ front (P ++ p) d
 unfolding placed
-placed-front P d p =
-    let T : List ℕ = drop (length P) d in
-    ap (λ (l : List ℕ). l ++ (p ++ drop (length P + length p) (P ++ T))) (take-append-seam P T)
-    ∙ ap (λ (l : List ℕ). P ++ (p ++ l)) (drop-append-add P T (length p) ∙ drop-drop (length p) (length P) d)
+placed-front {A} P d p =
+    let T : List A = drop (length P) d in
+    ap (λ (l : List A). l ++ (p ++ drop (length P + length p) (P ++ T))) (take-append-seam P T)
+    ∙ ap (λ (l : List A). P ++ (p ++ l)) (drop-append-add P T (length p) ∙ drop-drop (length p) (length P) d)
     ∙ sym (append-assoc P p (drop (length P + length p) d))
     ∙ ap (λ (n : ℕ). (P ++ p) ++ drop n d) (sym (length-append P p))
 
 -- ---- one value from lo up to i, a store a turn
-module _ (d : List ℕ) (lo i x : ℕ) (le : lo ≤ i) where
+module _ {A : Type 0} (d : List A) (lo i : ℕ) (x : A) (le : lo ≤ i) where
   pub row-length : i ≤ length d → length (placed d lo (replicate (i - lo) x)) ≡ length d
   row-length fits = length-placed d lo (replicate (i - lo) x) (omega (arith, length-replicate (i - lo) x))
 
@@ -66,19 +66,19 @@ module _ (d : List ℕ) (lo i x : ℕ) (le : lo ≤ i) where
       let more : i - lo + 1 ≡ i + 1 - lo = omega arith in
       ap (λ (n : ℕ). set (placed d lo (replicate (i - lo) x)) n x) here
       ∙ placed-more d lo (replicate (i - lo) x) x (omega arith)
-      ∙ ap (λ (l : List ℕ). placed d lo l) (replicate-append-replicate (i - lo) 1 x ∙ ap (λ (n : ℕ). replicate n x) more)
+      ∙ ap (λ (l : List A). placed d lo l) (replicate-append-replicate (i - lo) 1 x ∙ ap (λ (n : ℕ). replicate n x) more)
 
-pub row-none : (d : List ℕ) (lo hi x : ℕ) → hi ≤ lo → d ≡ placed d lo (replicate (hi - lo) x)
+pub row-none : {A : Type 0} (d : List A) (lo hi : ℕ) (x : A) → hi ≤ lo → d ≡ placed d lo (replicate (hi - lo) x)
 row-none d lo hi x h =
     let none : 0 ≡ hi - lo = omega arith in
     placed-none d lo ∙ ap (λ (n : ℕ). placed d lo (replicate n x)) none
 
-pub row-one : (d : List ℕ) (lo x : ℕ) → lo < length d → set d lo x ≡ placed (set d lo x) lo (replicate (lo + 1 - lo) x)
+pub row-one : {A : Type 0} (d : List A) (lo : ℕ) (x : A) → lo < length d → set d lo x ≡ placed (set d lo x) lo (replicate (lo + 1 - lo) x)
 row-one d lo x h =
     let one : 1 ≡ lo + 1 - lo = omega arith in
     first-put d lo x h ∙ ap (λ (n : ℕ). placed (set d lo x) lo (replicate n x)) one
 
-pub row-all : (d : List ℕ) (lo hi x : ℕ) → lo < hi → placed (set d lo x) lo (replicate (hi - lo) x) ≡ placed d lo (replicate (hi - lo) x)
+pub row-all : {A : Type 0} (d : List A) (lo hi : ℕ) (x : A) → lo < hi → placed (set d lo x) lo (replicate (hi - lo) x) ≡ placed d lo (replicate (hi - lo) x)
 row-all d lo hi x h = placed-set d lo x (replicate (hi - lo) x) (omega (arith, length-replicate (hi - lo) x))
 
 -- ---- a part of a row of levels
@@ -108,7 +108,7 @@ within j k m x R h =
 
 -- the bins from a up to those read grow by what a run of m adds, cut off at `to`
 module _ (L R d : List ℕ) (a bins to m x : ℕ) (le : bins ≤ to) (run : drop bins L ≡ replicate m x ++ R) (inside : to ≤ bins + m) where
-  between-more : between a to L ≡ between a bins L ++ replicate ((to - a) - (bins - a)) x
+  pub between-more : between a to L ≡ between a bins L ++ replicate ((to - a) - (bins - a)) x
   between-more =
       either to a
       (λ h.

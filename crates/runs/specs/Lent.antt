@@ -4,13 +4,13 @@ use mathlib.Core.List.{List, _++_}
 use lib.ListN.{length, take, drop}
 
 -- p at the front of d
-abbrev pub front : List ℕ → List ℕ → List ℕ
+abbrev pub front : {A : Type 0} → List A → List A → List A
 front p d = p ++ drop (length p) d
 
 -- p in d from a place on
-unfoldable pub placed : List ℕ → ℕ → List ℕ → List ℕ
+unfoldable pub placed : {A : Type 0} → List A → ℕ → List A → List A
 placed d at p = take at d ++ (p ++ drop (at + length p) d)
 
 -- the elements of l from a up to b
-abbrev pub between : ℕ → ℕ → List ℕ → List ℕ
+abbrev pub between : {A : Type 0} → ℕ → ℕ → List A → List A
 between a b l = take (b - a) (drop a l)

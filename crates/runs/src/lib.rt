@@ -147,7 +147,7 @@ pub fn known_run(octets: &[u8], v: u8, at: usize) -> Known
 }
 
 // One level, from lo up to hi. The first is stored by itself: most runs of noisy data are one bin, and a loop, which becomes a call, costs more.
-fn stamp(out: &mut [u8], lo: usize, hi: usize, level: u8)
+pub fn stamp(out: &mut [u8], lo: usize, hi: usize, level: u8)
     requires { ⌜ (lo ≤ hi) × (hi ≤ length (now out)) ⌝ }
     ensures { λ _. ⌜ now (out .exit) ≡ placed (now (out .entry)) lo (replicate (hi - lo) level) ⌝ }
 {
@@ -163,13 +163,13 @@ fn stamp(out: &mut [u8], lo: usize, hi: usize, level: u8)
 }
 
 // What x has above y.
-fn above(x: usize, y: usize) -> usize
+pub fn above(x: usize, y: usize) -> usize
     ensures { λ r. ⌜ r ≡ x - y ⌝ }
 {
     if y <= x { x - y } else { 0 }
 }
 
-fn lesser(x: usize, y: usize) -> usize
+pub fn lesser(x: usize, y: usize) -> usize
     ensures { λ r. ⌜ r ≡ min x y ⌝ }
 {
     if x <= y { x } else { y }

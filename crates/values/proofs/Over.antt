@@ -1,15 +1,19 @@
--- Laws of `over`, for any type of entry: a store makes one more place right; and a ray's levels may stand where their marks go.
+-- Laws of `over`, for any type of entry: a run's bins, stored as one row, make so many more places right.
 use mathlib.Core.Path.{_≡_, refl, _∙_, ap, sym}
 use mathlib.Core.List.{List, [], _∷_, _++_}
-use Prim.Native.Nat.{ℕ, zero, suc, _+_, _≤_, _<_}
+use Prim.Native.Nat.{ℕ, zero, suc, _+_, _-_, _≤_, _<_}
 use native.Mathlib.Nat.{le-of-suc-le-suc, not-suc-le-zero}
 use native.Mathlib.Numerals.{add-one}
-use lib.ListN.{length, getD, take, drop, set}
-use lib.Seq.{getD-take, take-at}
+use lib.ListN.{length, getD, take, drop, replicate, length-replicate}
+use native.Mathlib.Omega.{arith}
+use Rattle.runs.specs.Lent.{placed}
+use Rattle.runs.proofs.Lent.{placed-none}
 use lib.IntN.{ℤ, pos}
 use Rattle.values.specs.Ray.{over, markAt, heldAt, marksOf, valuesOf}
-use Rattle.values.specs.Reading.{readingOf, markOf, heldOf}
+use Rattle.values.specs.Reading.{readingOf, markOf, heldOf, numberOf, numberedTo}
 use Rattle.values.specs.declared.Product.{Product}
+use Rattle.values.specs.declared.Reading.{Reading}
+use Rattle.values.specs.declared.Reading.the-variants.{Missing, Number}
 
 pub over-length : {A : Type 0} (f : ℕ → A → A) (ls : List ℕ) (bs : List A) → length (over f ls bs) ≡ length bs
 unfolding over
@@ -22,21 +26,6 @@ unfolding over
 over-none f [] bs = refl
 over-none f (l ∷ ls) bs = refl
 
--- the place after the first i
-pub over-more : {A : Type 0} (f : ℕ → A → A) (ls : List ℕ) (bs : List A) (d : A) (i : ℕ) → i < length ls → i < length bs
-    → over f (take (suc i) ls) bs ≡ set (over f (take i ls) bs) i (f (getD ls i 0) (getD bs i d))
-unfolding over
-over-more f [] bs d i h k = absurd (not-suc-le-zero h)
-over-more f (l ∷ ls) [] d i h k = absurd (not-suc-le-zero k)
-over-more f (l ∷ ls) (b ∷ bs) d zero h k = ap (λ xs. f l b ∷ xs) (over-none f ls bs)
-over-more f (l ∷ ls) (b ∷ bs) d (suc i) h k = ap (λ xs. f l b ∷ xs) (over-more f ls bs d i (le-of-suc-le-suc h) (le-of-suc-le-suc k))
-
--- a turn of the loop, which stores what the level makes of the entry
-pub stored : {A : Type 0} (f : ℕ → A → A) (ls : List ℕ) (bs : List A) (d : A) (i : ℕ) (xs : List A) (x : A) → i < length ls → i < length bs
-    → xs ≡ over f (take i ls) bs → x ≡ f (getD ls i 0) (getD bs i d) → set xs i x ≡ over f (take (i + 1) ls) bs
-stored f ls bs d i xs x h k e p =
-    ap (λ ys. set ys i x) e ∙ ap (λ y. set (over f (take i ls) bs) i y) p ∙ sym (over-more f ls bs d i h k) ∙ ap (λ (j : ℕ). over f (take j ls) bs) (sym (add-one i))
-
 -- a place that has not been reached holds what it held
 pub over-past : {A : Type 0} (f : ℕ → A → A) (ls : List ℕ) (bs : List A) (d : A) (i : ℕ) → getD (over f (take i ls) bs) i d ≡ getD bs i d
 unfolding over
@@ -46,24 +35,64 @@ over-past f (l ∷ ls) bs d zero = refl
 over-past f (l ∷ ls) [] d (suc i) = refl
 over-past f (l ∷ ls) (b ∷ bs) d (suc i) = over-past f ls bs d i
 
--- ---- levels that stand at the front of the buffer that their marks go to
--- the level at a place that is not yet converted
-pub here : (p : Product) (n : ℕ) (bs xs : List ℕ) (i : ℕ) → i < n → xs ≡ over (markAt p) (take i (take n bs)) bs → getD xs i 0 ≡ getD (take n bs) i 0
-here p n bs xs i h e = ap (λ ys. getD ys i 0) e ∙ over-past (markAt p) (take n bs) bs 0 i ∙ sym (getD-take n bs i 0 h)
+-- ---- a run of k bins of level x after the levels P
+module _ {A : Type 0} (f : ℕ → A → A) (x : ℕ) where
+  -- the run alone, where the level makes the same m of every entry
+  row-over : (m : A) → ((b : A) → f x b ≡ m) → (k : ℕ) (bs : List A) → k ≤ length bs → replicate k m ++ drop k bs ≡ over f (replicate k x) bs
+  unfolding over
+  row-over m same zero bs h = refl
+  row-over m same (suc k) [] h = absurd (not-suc-le-zero h)
+  row-over m same (suc k) (b ∷ bs) h = (λ i. sym (same b) i ∷ row-over m same k bs (le-of-suc-le-suc h) i)
 
--- marks look at no octet that was there: levels written to the front first change nothing
-same-marks : (p : Product) (ls bs : List ℕ) → length ls ≤ length bs → over (markAt p) ls (ls ++ drop (length ls) bs) ≡ over (markAt p) ls bs
-unfolding over
-same-marks p [] bs h = refl
-same-marks p (l ∷ ls) [] h = absurd (not-suc-le-zero h)
-same-marks p (l ∷ ls) (b ∷ bs) h = ap (λ ys. markAt p l b ∷ ys) (same-marks p ls bs (le-of-suc-le-suc h))
+  -- and where it leaves every entry
+  kept-over : ((b : A) → f x b ≡ b) → (k : ℕ) (bs : List A) → bs ≡ over f (replicate k x) bs
+  unfolding over
+  kept-over same zero bs = refl
+  kept-over same (suc k) [] = refl
+  kept-over same (suc k) (b ∷ bs) = (λ i. sym (same b) i ∷ kept-over same k bs i)
 
--- what `convert` makes of a buffer that a ray's levels were written to the front of
-pub converted : (p : Product) (ls bs : List ℕ) → length ls ≤ length bs
-    → marksOf p (take (length ls) (ls ++ drop (length ls) bs)) (ls ++ drop (length ls) bs) ≡ marksOf p ls bs
-unfolding marksOf
-converted p ls bs h =
-    ap (λ ys. over (markAt p) ys (ls ++ drop (length ls) bs)) (take-at ls (drop (length ls) bs) (length ls) refl) ∙ same-marks p ls bs h
+  pub run-over : (m : A) → ((b : A) → f x b ≡ m) → (k : ℕ) (P : List ℕ) (bs : List A) → length P + k ≤ length bs
+      → placed (over f P bs) (length P) (replicate k m) ≡ over f (P ++ replicate k x) bs
+  unfolding over placed
+  run-over m same k [] bs h =
+      let size : 0 + length (replicate k m) ≡ k = omega (arith, length-replicate k m) in
+      ap (λ (n : ℕ). replicate k m ++ drop n bs) size ∙ row-over m same k bs (omega arith)
+  run-over m same k (p ∷ P) [] h = absurd (omega arith)
+  run-over m same k (p ∷ P) (b ∷ bs) h =
+      let next : suc (length P) + length (replicate k m) ≡ suc (length P + length (replicate k m)) = omega arith in
+      ap (λ (n : ℕ). f p b ∷ (take (length P) (over f P bs) ++ (replicate k m ++ drop {A = A} n (f p b ∷ over f P bs)))) next
+      ∙ ap (λ (l : List A). f p b ∷ l) (run-over m same k P bs (omega arith))
+
+  pub run-kept : ((b : A) → f x b ≡ b) → (k : ℕ) (P : List ℕ) (bs : List A) → over f P bs ≡ over f (P ++ replicate k x) bs
+  unfolding over
+  run-kept same k [] bs = kept-over same k bs
+  run-kept same k (p ∷ P) [] = refl
+  run-kept same k (p ∷ P) (b ∷ bs) = ap (λ (l : List A). f p b ∷ l) (run-kept same k P bs)
+
+pub numbered-within : (r : Reading) (lo hi : ℕ) → lo ≤ hi → (lo ≤ numberedTo r lo hi) × (numberedTo r lo hi ≤ hi)
+unfolding numberedTo
+numbered-within Missing lo hi h = (omega arith, h)
+numbered-within (Number z) lo hi h = (h, omega arith)
+
+-- what a reading's rows make of marks and values, where its level comes to the levels P
+pub marks-run : (p : Product) (x : ℕ) (P bs : List ℕ) (k : ℕ) → length P + k ≤ length bs
+    → placed (over (markAt p) P bs) (length P) (replicate k (markOf (readingOf p x))) ≡ over (markAt p) (P ++ replicate k x) bs
+marks-run p x P bs k h = run-over (markAt p) x (markOf (readingOf p x)) (λ b. refl) k P bs h
+
+held-run : (f : ℕ → ℤ → ℤ) (x : ℕ) (r : Reading) → ((z : ℤ) → f x z ≡ heldOf r z) → (P : List ℕ) (xs : List ℤ) (k : ℕ) → length P + k ≤ length xs
+    → placed (over f P xs) (length P) (replicate (numberedTo r (length P) (length P + k) - length P) (numberOf r)) ≡ over f (P ++ replicate k x) xs
+unfolding heldOf numberedTo numberOf
+held-run f x Missing same P xs k h =
+    let n : ℕ = length P in
+    let none : n - n ≡ 0 = omega arith in
+    ap (λ (j : ℕ). placed (over f P xs) n (replicate j (pos 0))) none ∙ sym (placed-none (over f P xs) n) ∙ run-kept f x same k P xs
+held-run f x (Number z) same P xs k h =
+    let all : length P + k - length P ≡ k = omega arith in
+    ap (λ (j : ℕ). placed (over f P xs) (length P) (replicate j z)) all ∙ run-over f x z same k P xs h
+
+pub values-run : (p : Product) (x : ℕ) (P : List ℕ) (xs : List ℤ) (k : ℕ) → length P + k ≤ length xs
+    → placed (over (heldAt p) P xs) (length P) (replicate (numberedTo (readingOf p x) (length P) (length P + k) - length P) (numberOf (readingOf p x))) ≡ over (heldAt p) (P ++ replicate k x) xs
+values-run p x P xs k h = held-run (heldAt p) x (readingOf p x) (λ z. refl) P xs k h
 
 pub marks-length : (p : Product) (ls bs : List ℕ) → length (marksOf p ls bs) ≡ length bs
 unfolding marksOf

@@ -1,15 +1,17 @@
-// The published values in hundredths, as constant tables; what a level is (missing, or a number), its mark, value and kind; and
-// section 5's table, octet for octet. Its laws stand on `octets` (sign and magnitude) and `fraction` (a value as a float); `layout` judges
-// section 5 with it, `polar` and `stretches` take a bin's reading and kind from it.
+// The published values in hundredths, as constant tables; what a level is (missing, or a number), its mark, value and kind; the readings
+// of a row of bins, run by run; and section 5's table, octet for octet. It stands on `runs`, and its laws on `octets` (sign and magnitude) and
+// `fraction` (a value as a float); `layout` judges section 5 with it, `cuts` and `stretches` take readings and kinds from it.
 //
 // A constant table that a loop indexes is laid out anew at each use. So whatever loops over levels is lent the table as a slice,
 // and one function on the product above it lends it.
 ghost use mathlib.Core.Path.{_≡_};
-ghost use Prim.Native.Nat.{ℕ, _≤_, _<_};
-ghost use lib.ListN.{length, take};
+ghost use Prim.Native.Nat.{ℕ, _≤_, _<_, _-_};
+ghost use lib.ListN.{length, replicate};
+ghost use Rattle.runs.specs.Run.{levels};
+ghost use Rattle.runs.specs.Lent.{placed, between};
 ghost use Rattle.values.specs.Published.{levelCount, published, tableOf};
-ghost use Rattle.values.specs.Reading.{readingOf, markOf, heldOf, kindOf, KindsBy};
-ghost use Rattle.values.specs.Ray.{marksOf, valuesOf, Within};
+ghost use Rattle.values.specs.Reading.{readingOf, markOf, numberOf, numberedTo, kindOf, KindsBy};
+ghost use Rattle.values.specs.Ray.{marksOf, valuesOf, Bins};
 ghost use Rattle.values.specs.Table.{signMagnitude, pairRight, octetsOf, same, tableRight};
 
 mod tables;
@@ -79,12 +81,22 @@ fn mark_of(reading: Reading) -> u8
     }
 }
 
-// What a place that held x holds afterwards.
-fn held_of(reading: Reading, x: i32) -> i32
-    ensures { λ y. ⌜ y ≡ heldOf reading x ⌝ }
+// Where the places that get a number end, of those from lo up to hi: a missing reading has none, so its places keep what they held.
+fn numbered_to(reading: Reading, lo: usize, hi: usize) -> usize
+    ensures { λ r. ⌜ r ≡ numberedTo reading lo hi ⌝ }
 {
     match reading {
-        Reading::Missing => x,
+        Reading::Missing => lo,
+        Reading::Number(_) => hi,
+    }
+}
+
+// The number, where there is one.
+fn number_of(reading: Reading) -> i32
+    ensures { λ z. ⌜ z ≡ numberOf reading ⌝ }
+{
+    match reading {
+        Reading::Missing => 0,
         Reading::Number(z) => z,
     }
 }
@@ -132,30 +144,98 @@ pub fn kinds_by(product: Product, t: i32) -> [u32; 256]
     }
 }
 
-// A ray's levels, the first n octets of `marks`, become its marks in place, and its numbers stand in `values`.
-fn convert_in(product: Product, table: &[i16], n: usize, marks: &mut [u8], values: &mut [i32])
-    requires { ⌜ now table ≡ tableOf product ⌝ }
-    requires { ⌜ (n ≤ length (now marks)) × (n ≤ length (now values)) × Within product (take n (now marks)) ⌝ }
-    ensures { λ _. ⌜ (now (marks .exit) ≡ marksOf product (take n (now (marks .entry))) (now (marks .entry))) × (now (values .exit) ≡ valuesOf product (take n (now (marks .entry))) (now (values .entry))) ⌝ }
+// One number, from lo up to hi.
+fn stamp_number(values: &mut [i32], lo: usize, hi: usize, z: i32)
+    requires { ⌜ (lo ≤ hi) × (hi ≤ length (now values)) ⌝ }
+    ensures { λ _. ⌜ now (values .exit) ≡ placed (now (values .entry)) lo (replicate (hi - lo) z) ⌝ }
 {
-    let mut i = 0;
-    while i < n {
-        let reading = reading_in(product, table, marks[i]);
-        marks[i] = mark_of(reading);
-        let x = values[i];
-        values[i] = held_of(reading, x);
+    let mut i = lo;
+    while i < hi {
+        values[i] = z;
         i += 1;
     }
 }
 
-// The first n octets of `marks` are a ray's levels: they become its marks, and `values` gets its numbers.
-pub fn convert(product: Product, n: usize, marks: &mut [u8], values: &mut [i32])
-    requires { ⌜ (n ≤ length (now marks)) × (n ≤ length (now values)) × Within product (take n (now marks)) ⌝ }
-    ensures { λ _. ⌜ (now (marks .exit) ≡ marksOf product (take n (now (marks .entry))) (now (marks .entry))) × (now (values .exit) ≡ valuesOf product (take n (now (marks .entry))) (now (values .entry))) ⌝ }
+// A reading from lo up to hi of a ray: its mark in each place, and its number where it has one.
+fn put_reading(reading: Reading, lo: usize, hi: usize, marks: &mut [u8], values: &mut [i32])
+    requires { ⌜ (lo ≤ hi) × (hi ≤ length (now marks)) × (hi ≤ length (now values)) ⌝ }
+    ensures { λ _. ⌜ now (marks .exit) ≡ placed (now (marks .entry)) lo (replicate (hi - lo) (markOf reading)) ⌝ }
+    ensures { λ _. ⌜ now (values .exit) ≡ placed (now (values .entry)) lo (replicate (numberedTo reading lo hi - lo) (numberOf reading)) ⌝ }
+{
+    runs::stamp(marks, lo, hi, mark_of(reading));
+    stamp_number(values, lo, numbered_to(reading, lo, hi), number_of(reading));
+}
+
+// The bins a up to b of what the octets give, run by run: their marks at the front of `marks`, and their numbers in `values`.
+fn readings_in(
+    product: Product,
+    table: &[i16],
+    octets: &[u8],
+    v: u8,
+    a: usize,
+    b: usize,
+    marks: &mut [u8],
+    values: &mut [i32],
+)
+    requires { ⌜ now table ≡ tableOf product ⌝ }
+    requires { ⌜ Bins product v a b (now octets) (length (now marks)) (length (now values)) ⌝ }
+    ensures { λ _. ⌜ now (marks .exit) ≡ marksOf product (between a b (levels v (now (octets .entry)))) (now (marks .entry)) ⌝ }
+    ensures { λ _. ⌜ now (values .exit) ≡ valuesOf product (between a b (levels v (now (octets .entry)))) (now (values .entry)) ⌝ }
+{
+    let spot = runs::seek(octets, v, a);
+    let mut at = spot.at;
+    let mut bins = spot.bins;
+    while bins < b {
+        let reading = reading_in(product, table, octets[at]);
+        let run = runs::known_run(octets, v, at);
+        let end = bins + run.len;
+        put_reading(
+            reading,
+            runs::above(bins, a),
+            runs::above(runs::lesser(end, b), a),
+            marks,
+            values,
+        );
+        bins = end;
+        at = run.next;
+    }
+}
+
+// The readings of the bins a up to b of what the octets give.
+pub fn readings_into(
+    product: Product,
+    octets: &[u8],
+    v: u8,
+    a: usize,
+    b: usize,
+    marks: &mut [u8],
+    values: &mut [i32],
+)
+    requires { ⌜ Bins product v a b (now octets) (length (now marks)) (length (now values)) ⌝ }
+    ensures { λ _. ⌜ now (marks .exit) ≡ marksOf product (between a b (levels v (now (octets .entry)))) (now (marks .entry)) ⌝ }
+    ensures { λ _. ⌜ now (values .exit) ≡ valuesOf product (between a b (levels v (now (octets .entry)))) (now (values .entry)) ⌝ }
 {
     match product {
-        Product::Reflectivity => convert_in(product, &tables::REFLECTIVITY, n, marks, values),
-        Product::Velocity => convert_in(product, &tables::VELOCITY, n, marks, values),
+        Product::Reflectivity => readings_in(
+            product,
+            &tables::REFLECTIVITY,
+            octets,
+            v,
+            a,
+            b,
+            marks,
+            values,
+        ),
+        Product::Velocity => readings_in(
+            product,
+            &tables::VELOCITY,
+            octets,
+            v,
+            a,
+            b,
+            marks,
+            values,
+        ),
     }
 }
 
