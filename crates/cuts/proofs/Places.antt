@@ -6,19 +6,19 @@ use mathlib.Core.Bool.{true}
 use native.Mathlib.Omega.{arith}
 use native.Mathlib.Nat.{mul-le-mul, mul-le-mul-right}
 use lib.ListN.{length, getD, take, drop}
-use lib.Seq.{drop-cons}
 use lib.IntN.{ℤ}
 use Rattle.runs.specs.Run.{opens, levels}
 use Rattle.runs.specs.Lent.{front, between}
 use Rattle.runs.proofs.Here.{gives-true, levels-le}
 use Rattle.values.specs.Published.{levelCount}
+use Rattle.values.specs.Ray.{Bins}
 use Rattle.values.specs.declared.Product.{Product}
 use Rattle.values.proofs.Listed.{count-le}
 use Rattle.layout.specs.Parts.{dataAt, productIn, binsIn, raysIn, greatestIn, levelsIn, levelIn}
 use Rattle.layout.specs.Good.{GoodCut}
 use Rattle.layout.specs.declared.Cut.{Cut}
 use Rattle.stretches.specs.Call.{Part, scaleOf, listed, rightPoint}
-use Rattle.cuts.specs.Bins.{binsFrom, stretchesIn}
+use Rattle.cuts.specs.Bins.{binsFrom, rayIn, stretchesIn}
 
 module _ (s : List ℕ) (c : Cut) (g : GoodCut s c) where
   pub greatest-small : greatestIn s c ≤ 252
@@ -61,6 +61,35 @@ module _ (s : List ℕ) (c : Cut) (g : GoodCut s c) (v : ℕ) (xs : List ℕ) (e
       let n : from + count - from ≡ count = omega arith in
       rw (ev, ex) (ap (λ (k : ℕ). front (take k (drop from (levels (greatestIn s c) (dataAt s (c .section7))))) d) n)
 
+  module _ (nb ray : ℕ) (eb : nb ≡ binsIn s c) (h : ray < raysIn s c) where
+    pub level-asks : (bin : ℕ) → bin < binsIn s c → ((v ≤ 253) × (opens v xs ≡ true) × (length (levels v xs) ≤ 2097152)) × (ray * nb + bin < length (levels v xs))
+    level-asks bin k =
+        let small = greatest-small s c g in
+        let all = all-levels s c g in
+        let few = few-bins s c g in
+        let there = bin-inside ray (raysIn s c) bin (binsIn s c) h k in
+        rw (ev, ex, eb) ((omega arith, data-opens s c g, omega arith), omega arith)
+
+    pub level-gives : (bin : ℕ) → getD (levels v xs) (ray * nb + bin) 0 ≡ levelIn s c ray bin
+    unfolding levelIn levelsIn
+    level-gives bin = rw (ev, ex, eb)
+
+    pub readings-ask : (p : Product) → p ≡ productIn s c → (marks values : ℕ) → binsIn s c ≤ marks → binsIn s c ≤ values → Bins p v (ray * nb) (ray * nb + nb) xs marks values
+    readings-ask p ep marks values m n =
+        let all = all-levels s c g in
+        let few = few-bins s c g in
+        let there = ray-inside ray (raysIn s c) (binsIn s c) h in
+        let some = g .bins-some in
+        rw (ev, ex, eb, ep)
+        (record { low = g .greatest-few; opened = data-opens s c g; few = omega arith; some = omega arith; given = omega arith; room-marks = omega arith; room-values = omega arith })
+
+    pub ray-gives : between (ray * nb) (ray * nb + nb) (levels v xs) ≡ rayIn s c ray
+    unfolding rayIn binsFrom levelsIn
+    ray-gives =
+        let from : ℕ = ray * binsIn s c in
+        let n : from + binsIn s c - from ≡ binsIn s c = omega arith in
+        rw (ev, ex, eb) (ap (λ (k : ℕ). take k (drop from (levels (greatestIn s c) (dataAt s (c .section7))))) n)
+
   module _ (nb nr : ℕ) (p : Product) (eb : nb ≡ binsIn s c) (er : nr ≡ raysIn s c) (ep : p ≡ productIn s c) where
     pub list-asks : (ray bin : ℕ) → rightPoint (binsIn s c) (raysIn s c) ray bin ≡ true
         → Part v nb nr xs × ((v ≤ levelCount p) × (rightPoint nb nr ray bin ≡ true))
@@ -73,18 +102,10 @@ module _ (s : List ℕ) (c : Cut) (g : GoodCut s c) (v : ℕ) (xs : List ℕ) (e
     unfolding stretchesIn
     list-gives t z ray bin ez = rw (ev, ex, eb, er, ep, ez)
 
--- the one bin that is read
-pub first-of : (l d : List ℕ) (p : ℕ) → p < length l → getD (front (take 1 (drop p l)) d) 0 0 ≡ getD l p 0
-first-of l d p h = rw (drop-cons l p 0 h)
-
-pub level-read : (s : List ℕ) (c : Cut) → GoodCut s c → (ray bin nb : ℕ) (d : List ℕ) → nb ≡ binsIn s c → ray < raysIn s c → bin < binsIn s c
-    → (getD (front (binsFrom s c (ray * nb + bin) 1) d) 0 0 ≡ levelIn s c ray bin) × (levelIn s c ray bin ≤ levelCount (productIn s c))
-unfolding binsFrom levelIn levelsIn
-level-read s c g ray bin nb d e h k =
-    let l = levels (greatestIn s c) (dataAt s (c .section7)) in
-    let all = all-levels s c g in
+-- every level of a good cut is one of its product
+pub level-few : (s : List ℕ) (c : Cut) → GoodCut s c → (ray bin : ℕ) → ray < raysIn s c → bin < binsIn s c → levelIn s c ray bin ≤ levelCount (productIn s c)
+unfolding levelIn levelsIn
+level-few s c g ray bin h k =
     let there = bin-inside ray (raysIn s c) bin (binsIn s c) h k in
-    let in-l : ray * binsIn s c + bin < length l = omega arith in
-    let low = levels-le (greatestIn s c) (dataAt s (c .section7)) (ray * binsIn s c + bin) in-l in
-    let few = g .greatest-few in
-    (rw e (first-of l d (ray * binsIn s c + bin) in-l), omega arith)
+    let low = levels-le (greatestIn s c) (dataAt s (c .section7)) (ray * binsIn s c + bin) (omega (arith, all-levels s c g)) in
+    omega (arith, g .greatest-few)

@@ -9,6 +9,7 @@ ghost use Prim.Native.Nat.{_+_, _*_, _≤_, _<_};
 ghost use lib.ListN.{length};
 ghost use Rattle.runs.specs.Lent.{front};
 ghost use Rattle.values.specs.Published.{levelCount};
+ghost use Rattle.values.specs.Ray.{marksOf, valuesOf};
 ghost use Rattle.layout.specs.Parts.{dataAt, productIn, binsIn, raysIn, greatestIn, levelIn};
 ghost use Rattle.layout.specs.Good.{GoodCut};
 ghost use Rattle.stretches.specs.Call.{answerOf, outOf, rightPoint};
@@ -72,15 +73,29 @@ pub fn ray_into(file: &[u8], c: Cut, ray: usize, out: &mut [u8])
     bins_into(file, c, ray * nb, nb, out)
 }
 
+// The readings of a ray: its marks at the front of `marks`, and its numbers in `values`.
+pub fn readings_into(file: &[u8], c: Cut, ray: usize, marks: &mut [u8], values: &mut [i32])
+    requires { ⌜ GoodCut (now file) c ⌝ }
+    requires { ⌜ (ray < raysIn (now file) c) × (binsIn (now file) c ≤ length (now marks)) × (binsIn (now file) c ≤ length (now values)) ⌝ }
+    ensures { λ _. ⌜ now (marks .exit) ≡ marksOf (productIn (now (file .entry)) c) (rayIn (now (file .entry)) c ray) (now (marks .entry)) ⌝ }
+    ensures { λ _. ⌜ now (values .exit) ≡ valuesOf (productIn (now (file .entry)) c) (rayIn (now (file .entry)) c ray) (now (values .entry)) ⌝ }
+{
+    let nb = bins_in(file, c);
+    let from = ray * nb;
+    let v = greatest_in(file, c);
+    let product = layout::product_in(file, c);
+    values::readings_into(product, data_in(file, c), v, from, from + nb, marks, values)
+}
+
 // The level of one bin.
 pub fn level_in(file: &[u8], c: Cut, ray: usize, bin: usize) -> u8
     requires { ⌜ GoodCut (now file) c ⌝ }
     requires { ⌜ (ray < raysIn (now file) c) × (bin < binsIn (now file) c) ⌝ }
     ensures { λ r. ⌜ (r ≡ levelIn (now (file .entry)) c ray bin) × (r ≤ levelCount (productIn (now (file .entry)) c)) ⌝ }
 {
-    let mut one = [0u8; 1];
-    bins_into(file, c, ray * bins_in(file, c) + bin, 1, &mut one);
-    one[0]
+    let at = ray * bins_in(file, c) + bin;
+    let v = greatest_in(file, c);
+    runs::level_at(data_in(file, c), v, at)
 }
 
 // The stretches that start at the point (ray, bin) or past it, as many as the words have room for.

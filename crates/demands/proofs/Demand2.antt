@@ -34,7 +34,7 @@ use Rattle.layout.specs.declared.FileRefusal.{FileRefusal}
 use Rattle.layout.proofs.Exact.{accepted-only, accepted-all}
 use Rattle.layout.proofs.GoodCuts.{good-accepted}
 use Rattle.cuts.specs.Bins.{rayIn}
-use Rattle.cuts.proofs.Places.{data-opens, all-bins, level-read}
+use Rattle.cuts.proofs.Places.{data-opens, all-bins, level-few}
 use Rattle.cuts.proofs.Rays.{ray-length, ray-bin}
 use Rattle.polar.specs.Cuts.{onCut, cutAt}
 use Rattle.polar.specs.Opening.{summaryOf, opened, openAnswer, infoOf, cutAnswer}
@@ -214,7 +214,7 @@ module _ (s : List ℕ) (cs : List Cut) (a : Accepted s cs) (i : ℕ) (lt : i < 
   near-value one =
       let c = getD cs i noCut in
       let g = good-accepted s cs a i lt in
-      published-near (productIn s c) (levelIn s c ray bin) one (level-read s c g ray bin (binsIn s c) [] refl h k .1)
+      published-near (productIn s c) (levelIn s c ray bin) one (level-few s c g ray bin h k)
 
 -- ── read back ──
 

@@ -1,25 +1,16 @@
 -- The answers on one cut, a law for each way out: 10, 11, or what is asked for. nr and nb are what was read of Nr and Nb.
 use Prim.Native.Nat.{ℕ, _≤_, _<_}
-use mathlib.Core.Path.{_≡_, sym, _∙_, ap}
+use mathlib.Core.Path.{_≡_, sym, _∙_}
 use mathlib.Core.List.{List}
 use mathlib.Core.Bool.{true, false, and-false}
 use native.Mathlib.Omega.{arith}
 use borrow.Author.Tests.{lt-ltb, le-ltb}
-use lib.ListN.{length, take, drop}
-use lib.Seq.{take-at}
 use lib.IntN.{ℤ}
-use Rattle.runs.specs.Lent.{front}
-use Rattle.runs.proofs.Lent.{length-front}
 use Rattle.values.specs.Reading.{readingOf}
-use Rattle.values.specs.Ray.{marksOf, valuesOf, Within}
-use Rattle.values.specs.declared.Product.{Product}
-use Rattle.values.proofs.Over.{converted}
 use Rattle.layout.specs.Parts.{productIn, binsIn, raysIn, levelIn}
-use Rattle.layout.specs.Good.{GoodCut}
 use Rattle.layout.specs.declared.Cut.{Cut}
 use Rattle.stretches.specs.Call.{answerOf, rightT, rightPoint}
-use Rattle.cuts.specs.Bins.{rayIn, stretchesIn}
-use Rattle.cuts.proofs.Rays.{ray-length, ray-within}
+use Rattle.cuts.specs.Bins.{stretchesIn}
 use Rattle.polar.specs.Rays.{rayOn, binOf, binOn}
 use Rattle.polar.specs.Stretching.{stretchesOn}
 use Rattle.polar.specs.declared.RayAnswer.the-variants.{Written, Refused}
@@ -84,33 +75,3 @@ module _ (s : List ℕ) (c : Cut) (nr nb : ℕ) (er : nr ≡ raysIn s c) (eb : n
   list-is t bin room h h' k =
       let p : rightPoint (binsIn s c) (raysIn s c) ray bin ≡ true = (λ i. rightPoint (sym eb i) (sym er i) ray bin) ∙ h' in
       rw (h, p, le-ltb room 4 k)
-
-  -- ── a ray's levels at the front of the marks, and then converted ──
-
-  module _ (g : GoodCut s c) (h : ray < nr) (p : Product) (ep : p ≡ productIn s c) (marks : List ℕ) (k : nb ≤ length marks)
-      (out : List ℕ) (eo : out ≡ front (rayIn s c ray) marks) where
-    inside : ray < raysIn s c
-    inside = omega arith
-
-    whole : length (rayIn s c ray) ≡ nb
-    whole = ray-length s c g ray inside ∙ sym eb
-
-    pub out-long : nb ≤ length out
-    out-long =
-        let n = whole in
-        let e = ap length eo ∙ length-front (rayIn s c ray) marks (omega arith) in
-        omega arith
-
-    pub front-is : take nb out ≡ rayIn s c ray
-    front-is = ap (take nb) eo ∙ take-at (rayIn s c ray) (drop (length (rayIn s c ray)) marks) nb whole
-
-    pub levels-fit : Within p (take nb out)
-    levels-fit = rw (front-is, ep) (ray-within s c g ray inside)
-
-    pub marks-are : marksOf p (take nb out) out ≡ marksOf (productIn s c) (rayIn s c ray) marks
-    marks-are =
-        let n = whole in
-        (λ i. marksOf (ep i) (take (sym n i) (eo i)) (eo i)) ∙ converted (productIn s c) (rayIn s c ray) marks (omega arith)
-
-    pub values-are : (values : List ℤ) → valuesOf p (take nb out) values ≡ valuesOf (productIn s c) (rayIn s c ray) values
-    values-are values = λ i. valuesOf (ep i) (front-is i) values

@@ -220,7 +220,6 @@ pub fn ray_levels(file: &[u8], i: usize, ray: usize, out: &mut [u8]) -> RayAnswe
     }
 }
 
-// The ray's levels are written at the front of the marks, and converted in place: no room of its own is needed.
 fn ray_values_on(file: &[u8], c: Cut, ray: usize, marks: &mut [u8], values: &mut [i32]) -> RayAnswer
     requires { ⌜ GoodCut (now file) c ⌝ }
     ensures { λ r. ⌜ r ≡ rayOn (now (file .entry)) ray (min (length (now (marks .entry))) (length (now (values .entry)))) c ⌝ }
@@ -238,9 +237,7 @@ fn ray_values_on(file: &[u8], c: Cut, ray: usize, marks: &mut [u8], values: &mut
     if values.len() < nb {
         return RayAnswer::Refused(FillRefusal::Room);
     }
-    let product = layout::product_in(file, c);
-    cuts::ray_into(file, c, ray, marks);
-    values::convert(product, nb, marks, values);
+    cuts::readings_into(file, c, ray, marks, values);
     RayAnswer::Written
 }
 

@@ -96,7 +96,7 @@ fn number_of(reading: Reading) -> i32
     ensures { λ z. ⌜ z ≡ numberOf reading ⌝ }
 {
     match reading {
-        Reading::Missing => 0,
+        Reading::Missing => 0i32,
         Reading::Number(z) => z,
     }
 }

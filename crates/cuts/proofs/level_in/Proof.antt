@@ -1,63 +1,56 @@
--- One bin, read into a row of one.
-use Rattle.cuts.proofs.Places.{few-bins, bin-inside, level-read}
-use Rattle.layout.specs.Parts.{binsIn, raysIn}
-use lib.ListN.{getD}
-use denote.Ref.{now}
-use native.Mathlib.Omega.{arith}
-use mathlib.Core.List.{List}
+-- What `level_at` asks and gives, said of a good cut (Places.antt).
 use Prim.Native.Nat.{ℕ, _*_}
 use mathlib.Core.Path.{_∙_, ap}
+use native.Mathlib.Omega.{arith}
+use denote.Ref.{now}
 use borrow.Author.Needs.{needs}
+use Rattle.layout.specs.Parts.{binsIn, raysIn}
+use Rattle.cuts.proofs.Places.{few-bins, bin-inside, level-asks, level-gives, level-few}
 use Rattle.cuts.proofs.level_in.Statement.{statement}
 use Rattle.cuts.proofs.level_in.Tie as tie
 
 bins-in-requires : tie.Need-bins-in-requires
 bins-in-requires c κs = search needs
 
-mul-bins-into : tie.Need-mul-bins-into
-mul-bins-into c = let a = c .before .before .args in
+mul-at : tie.Need-mul-at
+mul-at c = let a = c .before .before .args in
     let s = now (a .file) in
     let inside = bin-inside (a .ray) (raysIn s (a .c)) (a .bin) (binsIn s (a .c)) (c .before .before .pre .1 .0) (c .before .before .pre .1 .1) in
     let few = few-bins s (a .c) (c .before .before .pre .0) in
     let same = ap (λ (k : ℕ). a .ray * k) (c .bins-in .ensures) in
     record { fits = omega arith }
 
-add-bins-into : tie.Need-add-bins-into
-add-bins-into c = let a = c .before .before .args in
+add-at : tie.Need-add-at
+add-at c = let a = c .before .before .args in
     let s = now (a .file) in
     let inside = bin-inside (a .ray) (raysIn s (a .c)) (a .bin) (binsIn s (a .c)) (c .before .before .pre .1 .0) (c .before .before .pre .1 .1) in
     let few = few-bins s (a .c) (c .before .before .pre .0) in
     let same = ap (λ (k : ℕ). a .ray * k) (c .bins-in .ensures) in
     record { fits = omega arith }
 
-slice-aggregate-bins-into : tie.Need-slice-aggregate-bins-into
-slice-aggregate-bins-into c = search needs
+greatest-in-requires : tie.Need-greatest-in-requires
+greatest-in-requires c κs = search needs
 
-bins-into-requires : tie.Need-bins-into-requires
-bins-into-requires c κs = let a = c .before .before .before .args in
-    let s = now (a .file) in
-    let inside = bin-inside (a .ray) (raysIn s (a .c)) (a .bin) (binsIn s (a .c)) (c .before .before .before .pre .1 .0) (c .before .before .before .pre .1 .1) in
-    let same = ap (λ (k : ℕ). a .ray * k) (c .before .bins-in .ensures) in
-    (c .before .before .before .pre .0, (omega arith, omega arith))
+data-in-requires : tie.Need-data-in-requires
+data-in-requires c κs = search needs
 
-array-read-result : tie.Need-array-read-result
-array-read-result c = search needs
+level-at-requires : tie.Need-level-at-requires
+level-at-requires c κs = let s = c .before .before .before .before in
+    level-asks (now (s .args .file)) (s .args .c) (s .pre .0) _ _ (c .before .greatest-in .ensures) (c .data-in .ensures) _ (s .args .ray) (c .before .before .bins-in .ensures) (s .pre .1 .0) (s .args .bin) (s .pre .1 .1)
 
 returns : tie.Need-returns
-returns c = let a = c .before .before .before .before .before .args in
-    let s = now (a .file) in
-    let e = ap (λ (l : List ℕ). getD l 0 0) (c .before .bins-into .ensures) in
-    let r = level-read s (a .c) (c .before .before .before .before .before .pre .0) (a .ray) (a .bin) (c .before .before .before .bins-in .result) _ (c .before .before .before .bins-in .ensures) (c .before .before .before .before .before .pre .1 .0) (c .before .before .before .before .before .pre .1 .1) in
-    (e ∙ r .0, omega (arith, e ∙ r .0, r .1))
+returns c = let s = c .before .before .before .before .before in
+    let e = c .level-at .ensures ∙ level-gives (now (s .args .file)) (s .args .c) (s .pre .0) _ _ (c .before .before .greatest-in .ensures) (c .before .data-in .ensures) _ (s .args .ray) (c .before .before .before .bins-in .ensures) (s .pre .1 .0) (s .args .bin) in
+    (e, omega (arith, e, level-few (now (s .args .file)) (s .args .c) (s .pre .0) (s .args .ray) (s .args .bin) (s .pre .1 .0) (s .pre .1 .1)))
 
 pub level-in-spec : {M : Type 1} → statement M
 level-in-spec =
     tie.close
     (tie.spec
     bins-in-requires
-    mul-bins-into
-    add-bins-into
-    slice-aggregate-bins-into
-    bins-into-requires
-    array-read-result
+    mul-at
+    add-at
+    greatest-in-requires
+    data-in-requires
+    level-at-requires
     returns)

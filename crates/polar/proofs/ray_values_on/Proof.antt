@@ -1,14 +1,16 @@
--- A law for each way out (Answering.antt); the levels at the front of the marks are converted in place.
-use Rattle.polar.proofs.Answering.{ray-none, ray-short, ray-fits, out-long, levels-fit, marks-are, values-are}
-use Rattle.polar.proofs.Answering.{ray-none, ray-short, ray-fits, levels-fit, marks-are, values-are}
+-- A law for each way out (Answering.antt); of the two rooms the smaller counts.
+use Rattle.polar.proofs.Answering.{ray-none, ray-short, ray-fits}
 use lib.ListN.{length}
 use denote.Ref.{now}
 use native.Mathlib.Omega.{arith}
-use Prim.Native.Nat.{min}
-use mathlib.Core.Path.{refl, _∙_}
+use Prim.Native.Nat.{ℕ, min}
+use mathlib.Core.Path.{refl}
 use borrow.Author.Needs.{needs}
 use Rattle.polar.proofs.ray_values_on.Statement.{statement}
 use Rattle.polar.proofs.ray_values_on.Tie as tie
+
+abbrev room : tie.Start → ℕ
+room s = min (length (now (s .args .marks))) (length (now (s .args .values)))
 
 rays-in-requires : tie.Need-rays-in-requires
 rays-in-requires c κs = search needs
@@ -17,32 +19,19 @@ bins-in-requires : tie.Need-bins-in-requires
 bins-in-requires c κs = search needs
 
 returns : tie.Need-returns
-returns c = let a = c .before .before .before .before .before .args in
-    (ray-none (now (a .file)) (a .c) _ _ (c .before .before .rays-in .ensures) (c .before .bins-in .ensures) (a .ray) (min (length (now (a .marks))) (length (now (a .values)))) (c .if1 .taken), (refl, refl))
+returns c = let s = c .before .before .before .before .before in
+    (ray-none (now (s .args .file)) (s .args .c) _ _ (c .before .before .rays-in .ensures) (c .before .bins-in .ensures) (s .args .ray) (room s) (c .if1 .taken), (refl, refl))
 
 returns-2 : tie.Need-returns-2
-returns-2 c = let a = c .before .before .before .before .before .before .args in
-    (ray-short (now (a .file)) (a .c) _ _ (c .before .before .before .rays-in .ensures) (c .before .before .bins-in .ensures) (a .ray) (min (length (now (a .marks))) (length (now (a .values)))) (c .before .if1 .left) (omega arith), (refl, refl))
+returns-2 c = let s = c .before .before .before .before .before .before in
+    (ray-short (now (s .args .file)) (s .args .c) _ _ (c .before .before .before .rays-in .ensures) (c .before .before .bins-in .ensures) (s .args .ray) (room s) (c .before .if1 .left) (omega arith), (refl, refl))
 
 returns-3 : tie.Need-returns-3
-returns-3 c = let a = c .before .before .before .before .before .before .before .args in
-    (ray-short (now (a .file)) (a .c) _ _ (c .before .before .before .before .rays-in .ensures) (c .before .before .before .bins-in .ensures) (a .ray) (min (length (now (a .marks))) (length (now (a .values)))) (c .before .before .if1 .left) (omega arith), (refl, refl))
+returns-3 c = let s = c .before .before .before .before .before .before .before in
+    (ray-short (now (s .args .file)) (s .args .c) _ _ (c .before .before .before .before .rays-in .ensures) (c .before .before .before .bins-in .ensures) (s .args .ray) (room s) (c .before .before .if1 .left) (omega arith), (refl, refl))
 
-product-in-requires : tie.Need-product-in-requires
-product-in-requires c κs = search needs
-
-ray-into-requires : tie.Need-ray-into-requires
-ray-into-requires c κs = (c .before .before .before .before .before .before .before .before .before .pre, (omega (arith, c .before .before .before .before .before .before .rays-in .ensures), omega (arith, c .before .before .before .before .before .bins-in .ensures)))
-
-convert-requires : tie.Need-convert-requires
-convert-requires c κs = let a = c .before .before .before .before .before .before .before .before .before .before .before .before .before .before .args in
-    let s = now (a .file) in
-    let er = c .before .before .before .before .before .before .before .before .before .before .before .rays-in .ensures in
-    let eb = c .before .before .before .before .before .before .before .before .before .before .bins-in .ensures in (
-      out-long s (a .c) _ _ er eb (a .ray) (c .before .before .before .before .before .before .before .before .before .before .before .before .before .before .pre) (c .before .before .before .before .before .before .before .before .before .if1 .left) _ (c .before .before .before .before .before .before .product-in .ensures) (now (a .marks)) (c .before .before .before .before .before .before .before .before .if2 .left) _ (c .before .before .before .before .ray-into .ensures),
-      c .before .before .before .before .before .before .before .if3 .left,
-      levels-fit s (a .c) _ _ er eb (a .ray) (c .before .before .before .before .before .before .before .before .before .before .before .before .before .before .pre) (c .before .before .before .before .before .before .before .before .before .if1 .left) _ (c .before .before .before .before .before .before .product-in .ensures) (now (a .marks)) (c .before .before .before .before .before .before .before .before .if2 .left) _ (c .before .before .before .before .ray-into .ensures),
-    )
+readings-into-requires : tie.Need-readings-into-requires
+readings-into-requires c κs = search needs
 
 same-length : tie.Need-same-length
 same-length c = search needs
@@ -51,18 +40,8 @@ same-length-2 : tie.Need-same-length-2
 same-length-2 c = search needs
 
 returns-4 : tie.Need-returns-4
-returns-4 c = let a = c .before .before .before .before .before .before .before .before .before .before .before .before .before .before .before .before .before .before .args in
-    let s = now (a .file) in
-    let er = c .before .before .before .before .before .before .before .before .before .before .before .before .before .before .before .rays-in .ensures in
-    let eb = c .before .before .before .before .before .before .before .before .before .before .before .before .before .before .bins-in .ensures in (
-      ray-fits s (a .c) _ _ er eb (a .ray) (min (length (now (a .marks))) (length (now (a .values)))) (c .before .before .before .before .before .before .before .before .before .before .before .before .before .if1 .left) (omega arith),
-      (
-        c .before .before .before .convert .ensures .0
-            ∙ marks-are s (a .c) _ _ er eb (a .ray) (c .before .before .before .before .before .before .before .before .before .before .before .before .before .before .before .before .before .before .pre) (c .before .before .before .before .before .before .before .before .before .before .before .before .before .if1 .left) _ (c .before .before .before .before .before .before .before .before .before .before .product-in .ensures) (now (a .marks)) (c .before .before .before .before .before .before .before .before .before .before .before .before .if2 .left) _ (c .before .before .before .before .before .before .before .before .ray-into .ensures),
-        c .before .before .before .convert .ensures .1
-            ∙ values-are s (a .c) _ _ er eb (a .ray) (c .before .before .before .before .before .before .before .before .before .before .before .before .before .before .before .before .before .before .pre) (c .before .before .before .before .before .before .before .before .before .before .before .before .before .if1 .left) _ (c .before .before .before .before .before .before .before .before .before .before .product-in .ensures) (now (a .marks)) (c .before .before .before .before .before .before .before .before .before .before .before .before .if2 .left) _ (c .before .before .before .before .before .before .before .before .ray-into .ensures) (now (a .values)),
-      ),
-    )
+returns-4 c = let s = c .before .before .before .before .before .before .before .before .before .before .before .before .before in
+    (ray-fits (now (s .args .file)) (s .args .c) _ _ (c .before .before .before .before .before .before .before .before .before .before .rays-in .ensures) (c .before .before .before .before .before .before .before .before .before .bins-in .ensures) (s .args .ray) (room s) (c .before .before .before .before .before .before .before .before .if1 .left) (omega arith), c .before .before .before .readings-into .ensures)
 
 pub ray-values-on-spec : {M : Type 1} → statement M
 ray-values-on-spec =
@@ -73,9 +52,7 @@ ray-values-on-spec =
     returns
     returns-2
     returns-3
-    product-in-requires
-    ray-into-requires
-    convert-requires
+    readings-into-requires
     same-length
     same-length-2
     returns-4)
