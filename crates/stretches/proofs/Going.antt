@@ -1,65 +1,99 @@
--- The listing loop: what is written so far, and what is owed from here on, is the whole list. What each step of a turn makes of that,
--- for any scale. Bin b of ray r is place r * nb + b.
+-- The listing step by step, for any scale: where reading stands (`Going`), and what the call ends with from there on (`due`), which no step changes.
+-- Bin b of ray r is place r * nb + b, also where what is in hand goes on past the ray's end and b is nb or more.
 use Prim.Native.Nat.{ℕ, suc, _+_, _-_, _*_, _/_, _%_, _≤_, _<_}
 use mathlib.Core.Path.{_≡_, refl, ap, sym, subst, _∙_}
 use mathlib.Core.Bool.{Bool, true, false, cond, _&&_, true≢false}
-use mathlib.Core.List.{List, [], _∷_, _++_, append-assoc, append-nil}
+use mathlib.Core.List.{List, [], _∷_}
 use native.Mathlib.Nat.{add-zero, zero-mul, suc-mul, mod-eq-of-lt, div-eq-of-lt, div-add-mod', mul-add-div-right, mul-add-mod-self-right, mul-le-mul-right}
 use native.Mathlib.Numerals.{add-one}
 use native.Mathlib.Decide.{decLt}
 use native.Mathlib.Omega.{arith}
-use lib.ListN.{length, getD, drop, replicate, length-append, length-drop, length-replicate, getD-replicate, List·getD-append, replicate-append-replicate, drop-of-length-le}
-use lib.Seq.{sets, length-sets, drop-drop, drop-at, take-at, getD-drop, take-all}
+use lib.ListN.{length, getD, take, drop, replicate, length-replicate, getD-replicate, List·getD-append}
+use lib.Seq.{sets, length-sets, getD-drop, take-nil, drop-nil}
 use lib.Dec.{leb, ltb}
 use borrow.Author.Tests.{ltb-true}
-use Rattle.runs.specs.Run.{levels, opens}
-use Rattle.stretches.specs.Feed.{pending, Refilled}
+use Rattle.runs.specs.Run.{levels, opens, runLen, runNext}
+use Rattle.runs.proofs.Here.{here-inside, here-fits, here-run, here-rest, here-opened}
 use Rattle.stretches.specs.Stretch.{Entry, Scale, perEntry, kindAt, starts, entryAt, listFrom, past, words, wordsOf, toList}
-use Rattle.stretches.specs.Call.{answerOf, outOf}
-use Rattle.stretches.specs.declared.Feed.{Feed}
+use Rattle.stretches.specs.Call.{answer, listed, answerOf, outOf}
 use Rattle.stretches.specs.declared.Listing.{Listing}
-use Rattle.stretches.proofs.Laws.{fresh-ray, fresh-same, fresh-other, inHand, hand-length, hand-words, words-append, length-words, sets-append, quiet, starts-zero, owed, fresh-owed, close-owed, advance-owed, end-owed}
+use Rattle.stretches.proofs.Laws.{fresh-ray, fresh-other, quiet, starts-zero, close-list}
 
 -- ---- places of a grid
-pub place-ray : (nb ray bin : ℕ) → bin < nb → (ray * nb + bin) / nb ≡ ray
+place-ray : (nb ray bin : ℕ) → bin < nb → (ray * nb + bin) / nb ≡ ray
 place-ray nb ray bin h = mul-add-div-right (omega arith) ray bin ∙ ap (λ (t : ℕ). ray + t) (div-eq-of-lt h) ∙ add-zero ray
 
-pub place-bin : (nb ray bin : ℕ) → bin < nb → (ray * nb + bin) % nb ≡ bin
+place-bin : (nb ray bin : ℕ) → bin < nb → (ray * nb + bin) % nb ≡ bin
 place-bin nb ray bin h = mul-add-mod-self-right ray nb bin ∙ mod-eq-of-lt h
 
--- a ray's end is the next ray's start
-ray-end : (nb ray : ℕ) → (ray + 1) * nb + 0 ≡ ray * nb + nb
-ray-end nb ray = omega (arith, ap (λ (x : ℕ). x * nb) (add-one ray), suc-mul ray nb)
-
--- ---- what is to come, n levels on
-drop-replicate : (n m a : ℕ) (z : List ℕ) → n ≤ m → drop n (replicate m a ++ z) ≡ replicate (m - n) a ++ z
-drop-replicate n m a z h =
-    let e : n + (m - n) ≡ m = omega arith in
-    let r : replicate m a ++ z ≡ replicate n a ++ (replicate (m - n) a ++ z) =
-    ap (λ (k : ℕ). replicate k a ++ z) (sym e) ∙ ap (λ (l : List ℕ). l ++ z) (sym (replicate-append-replicate n (m - n) a)) ∙ append-assoc (replicate n a) _ _ in
-    ap (drop n) r ∙ drop-at (replicate n a) _ n (length-replicate n a)
-
--- ---- the answer, from the entries written and those that are left
-module _ (out₀ : List ℕ) (nr : ℕ) (list d : List Entry) where
-  -- what a call promises
-  abbrev pub Answers : Listing → List ℕ → Type 0
-  Answers r out = (r ≡ answerOf nr (length out₀) list) × (out ≡ outOf out₀ list)
-
-  answer-more : (e : Entry) (es : List Entry) → list ≡ d ++ (e ∷ es) → length d ≡ length out₀ / perEntry
-      → Answers (record { count = length d; ray = e .ray; bin = e .first }) (sets out₀ 0 (wordsOf d))
-  unfolding answerOf outOf
-  answer-more e es h l = rw (h, take-at d (e ∷ es) (length out₀ / perEntry) l, drop-at d (e ∷ es) (length out₀ / perEntry) l) (refl, refl)
-
-  answer-all : list ≡ d → length d ≤ length out₀ / perEntry → Answers (record { count = length d; ray = nr; bin = 0 }) (sets out₀ 0 (wordsOf d))
-  unfolding answerOf outOf
-  answer-all h l = rw (h, take-all (length out₀ / perEntry) d l, drop-of-length-le d l) (refl, refl)
+-- the next ray begins where a ray ends
+pub next-ray : (nb ray : ℕ) → (ray + 1) * nb + 0 ≡ ray * nb + nb
+next-ray nb ray = omega (arith, ap (λ (x : ℕ). x * nb) (add-one ray), suc-mul ray nb)
 
 -- a test of two parts
 both : (a b : Bool) → a && b ≡ true → (a ≡ true) × (b ≡ true)
 both true b e = (refl, e)
 both false b e = absurd (true≢false (sym e))
 
-module _ (sc : Scale) (v nb nr q : ℕ) (xs : List ℕ) (list : List Entry) (out₀ : List ℕ) where
+-- ---- what a call ends with
+pub record Outcome : Type 0 where
+  pub listing : Listing
+  pub out : List ℕ
+
+-- what it promises
+abbrev pub promised : ℕ → List ℕ → List Entry → Outcome
+promised nr out es = record { listing = answerOf nr (length out) es; out = outOf out es }
+
+-- two that are one agree in both parts
+pub told : (p : Outcome) {r : Listing} {out : List ℕ} → p ≡ record { listing = r; out = out } → (r ≡ p .listing) × (out ≡ p .out)
+told p h = (ap (λ (o : Outcome). o .listing) (sym h), ap (λ (o : Outcome). o .out) (sym h))
+
+module _ (nr cap : ℕ) where
+  -- with room for cap entries, count of them written, and es still to list
+  unfoldable pub finished : List ℕ → ℕ → List Entry → Outcome
+  finished out count es = record {
+    listing = answer nr (count + length (take (cap - count) es)) (drop (cap - count) es);
+    out = sets out (perEntry * count) (wordsOf (take (cap - count) es));
+  }
+
+  -- an entry is written
+  finish-put : (out : List ℕ) (count : ℕ) (e : Entry) (es : List Entry) → count < cap → finished out count (e ∷ es) ≡ finished (sets out (perEntry * count) (words e)) (count + 1) es
+  unfolding finished wordsOf
+  finish-put out count e es h =
+      let n : ℕ = cap - (count + 1) in
+      let left : cap - count ≡ suc n = omega arith in
+      let more : count + suc (length (take n es)) ≡ count + 1 + length (take n es) = omega arith in
+      let next : suc (suc (suc (suc (perEntry * count)))) ≡ perEntry * (count + 1) = omega arith in
+      rw left (λ i. record { listing = answer nr (more i) (drop n es); out = sets (sets out (perEntry * count) (words e)) (next i) (wordsOf (take n es)) })
+
+  -- there is no room for one
+  finish-full : (out : List ℕ) (count : ℕ) (e : Entry) (es : List Entry) → cap ≤ count
+      → finished out count (e ∷ es) ≡ record { listing = record { count = count; ray = e .ray; bin = e .first }; out = out }
+  unfolding finished wordsOf
+  finish-full out count e es h = let none : cap - count ≡ 0 = omega arith in rw (none, add-zero count)
+
+  -- all are written
+  finish-all : (out : List ℕ) (count : ℕ) → finished out count [] ≡ record { listing = record { count = count; ray = nr; bin = 0 }; out = out }
+  unfolding finished wordsOf
+  finish-all out count = rw (take-nil, drop-nil, add-zero count)
+
+-- none is written
+finish-start : (nr : ℕ) (out : List ℕ) (es : List Entry) → promised nr out es ≡ finished nr (length out / perEntry) out 0 es
+unfolding finished answerOf outOf
+finish-start nr out es =
+    let cap : ℕ = length out / perEntry in
+    let left : cap ≡ cap - 0 = omega arith in
+    let none : length (take cap es) ≡ 0 + length (take cap es) = omega arith in
+    rw (← left) (λ i. record { listing = answer nr (none i) (drop cap es); out = sets out 0 (wordsOf (take cap es)) })
+
+-- a buffer keeps its length
+pub same-size : (nr cap : ℕ) (out₀ out : List ℕ) (count : ℕ) (all es : List Entry) → promised nr out₀ all ≡ finished nr cap out count es → length out ≡ length out₀
+unfolding finished outOf
+same-size nr cap out₀ out count all es h =
+    sym (length-sets out (perEntry * count) (wordsOf (take (cap - count) es))) ∙ ap (λ (o : Outcome). length (o .out)) (sym h) ∙ length-sets out₀ 0 (wordsOf (take (length out₀ / perEntry) all))
+
+-- ---- the reading
+module _ (sc : Scale) (v nb nr : ℕ) (xs : List ℕ) where
   abbrev K : ℕ → ℕ
   K = kindAt sc (levels v xs)
 
@@ -69,336 +103,226 @@ module _ (sc : Scale) (v nb nr q : ℕ) (xs : List ℕ) (list : List Entry) (out
   abbrev E : ℕ → ℕ → Entry
   E = entryAt sc (levels v xs) nb
 
-  abbrev pl : (p n : ℕ) → E p n .ray * nb + E p n .first ≡ p
-  pl p n = div-add-mod' p nb
-
-  abbrev cap : ℕ
-  cap = length out₀ / perEntry
-
-  -- what is owed with the bins from first up to bin of a ray in hand
-  abbrev due : ℕ → ℕ → ℕ → List Entry
-  due ray first bin = owed S E nb pl q (ray * nb + first) (ray * nb + bin) (nr * nb - (ray * nb + bin))
-
-  pub record Going (out : List ℕ) (feed : Feed) (ray bin first held count : ℕ) : Type 0 where
-    pub bin-lt : bin < nb
+  -- the bins from first up to bin are in hand, of kind held; the octets from `at` on give the levels after them
+  pub record Going (at ray bin first held : ℕ) : Type 0 where
+    pub first-lt : first < nb
     pub first-le : first ≤ bin
     pub here-le : ray * nb + bin ≤ nr * nb
-    pub fed : drop (ray * nb + bin) (levels v xs) ≡ pending v xs feed
-    pub ready : opens v (drop (feed .at) xs) ≡ true
+    pub fed : drop (ray * nb + bin) (levels v xs) ≡ levels v (drop at xs)
+    pub ready : opens v (drop at xs) ≡ true
     pub same : (x : ℕ) → ray * nb + first ≤ x → x < ray * nb + bin → K x ≡ held
-    pub new : first ≡ bin → S (ray * nb + bin) ≡ true
-    pub done : List Entry
-    pub whole : list ≡ done ++ due ray first bin
-    pub counted : count ≡ length done
-    pub room : count ≤ cap
-    pub out-is : out ≡ sets out₀ 0 (wordsOf done)
+    pub new : S (ray * nb + first) ≡ true
 
-  -- where the loop begins
-  pub going-start : 0 < nb → opens v xs ≡ true → list ≡ past nb q (listFrom S E 0 (nr * nb)) → Going out₀ (record { at = 0; left = 0; level = 0 }) 0 0 0 0 0
-  unfolding pending wordsOf
-  going-start some o l =
+  -- where the listing begins
+  pub going-start : 0 < nb → opens v xs ≡ true → Going 0 0 0 0 0
+  going-start some o =
       let z : 0 * nb + 0 ≡ 0 = omega (arith, zero-mul nb) in
       record {
-        bin-lt = some;
+        first-lt = some;
         first-le = omega arith;
         here-le = omega (arith, z);
         fed = ap (λ (p : ℕ). drop p (levels v xs)) z;
         ready = o;
         same = λ x a b. absurd (omega arith);
-        new = λ _. subst (λ (p : ℕ). S p ≡ true) (sym z) (starts-zero K nb);
-        done = [];
-        whole = l ∙ sym (fresh-owed S E nb pl q 0 (nr * nb) (starts-zero K nb)) ∙ ap (λ (m : ℕ). owed S E nb pl q 0 0 m) (omega arith) ∙ ap (λ (p : ℕ). owed S E nb pl q p p (nr * nb - p)) (sym z);
-        counted = refl;
-        room = omega arith;
-        out-is = refl;
+        new = subst (λ (p : ℕ). S p ≡ true) (sym z) (starts-zero K nb);
       }
 
-  -- the buffer keeps its length
-  pub same-size : {out : List ℕ} {feed : Feed} {ray bin first held count : ℕ} → Going out feed ray bin first held count → length out ≡ length out₀
-  same-size g = ap length (g .out-is) ∙ length-sets out₀ 0 (wordsOf (g .done))
-
   -- a ray that is not past the last one
-  pub ray-le : {out : List ℕ} {feed : Feed} {ray bin first held count : ℕ} → Going out feed ray bin first held count → ray ≤ nr
+  pub ray-le : {at ray bin first held : ℕ} → Going at ray bin first held → ray ≤ nr
   ray-le {ray = ray} g = go (decLt nr ray)
     where
       go : Dec (nr < ray) → ray ≤ nr
-      go (yes h) = absurd (omega (arith, g .here-le, g .bin-lt, mul-le-mul-right nb h, suc-mul nr nb))
+      go (yes h) = absurd (omega (arith, g .here-le, g .first-lt, mul-le-mul-right nb h, suc-mul nr nb))
       go (no h) = omega arith
 
-  -- with some of a run in hand
-  pub going-fed : {out : List ℕ} {feed : Feed} {ray bin first held count : ℕ} → Going out feed ray bin first held count → (f : Feed) → Refilled v xs feed f → Going out f ray bin first held count
-  going-fed g f fl = record {
-    bin-lt = g .bin-lt;
-    first-le = g .first-le;
-    here-le = g .here-le;
-    fed = g .fed ∙ sym (fl .same);
-    ready = fl .ready;
-    same = g .same;
-    new = g .new;
-    done = g .done;
-    whole = g .whole;
-    counted = g .counted;
-    room = g .room;
-    out-is = g .out-is;
-  }
-
-  -- all has come
-  pub ended : {out : List ℕ} {feed : Feed} {ray bin first held count : ℕ} → Going out feed ray bin first held count → nr ≤ ray → Answers out₀ nr list [] (record { count = count; ray = nr; bin = 0 }) out
-  ended {out} {feed} {ray} {bin} {first} {held} {count} g h =
-      let r : ray ≡ nr = omega (arith, ray-le g) in
-      let e : ray * nb ≡ nr * nb = ap (λ (x : ℕ). x * nb) r in
-      let b : ray * nb + bin ≡ nr * nb = omega (arith, g .here-le) in
-      let f : ray * nb + first ≡ nr * nb = omega (arith, g .first-le) in
-      let z : nr * nb - (ray * nb + bin) ≡ 0 = omega arith in
-      let w : list ≡ g .done =
-      g .whole ∙ (λ i. g .done ++ owed S E nb pl q (f i) (b i) (z i)) ∙ ap (λ (l : List Entry). g .done ++ l) (end-owed S E nb pl q (nr * nb)) ∙ append-nil (g .done) in
-      let a = answer-all out₀ nr list (g .done) w (omega (arith, g .counted, g .room)) in
-      (ap (λ (x : ℕ). record { count = x; ray = nr; bin = 0 }) (g .counted) ∙ a .0, g .out-is ∙ a .1)
-
-  -- ---- the stretch in hand ends at bin `end` of its ray, and the rest is owed: it is written, or there is no room for it
-  pub record Closing (out : List ℕ) (count ray first end held : ℕ) (rest : List Entry) : Type 0 where
-    pub done : List Entry
-    pub whole : list ≡ done ++ (inHand E q (ray * nb + first) (ray * nb + end) ++ rest)
-    pub counted : count ≡ length done
-    pub room : count ≤ cap
-    pub out-is : out ≡ sets out₀ 0 (wordsOf done)
+  -- the bins of a ray from first up to end are a longest stretch, or none
+  pub record Closing (ray first end held : ℕ) : Type 0 where
     pub first-lt : first < nb
+    pub first-le : first ≤ end
+    pub in-ray : end ≤ nb
+    pub end-le : ray * nb + end ≤ nr * nb
     pub same : (x : ℕ) → ray * nb + first ≤ x → x < ray * nb + end → K x ≡ held
+    pub new : S (ray * nb + first) ≡ true
+    pub next : S (ray * nb + end) ≡ true
 
-  -- what becomes of it: its words are written where it is one to list, and else it is passed over
-  pub record Flushed (wanted : Bool) (ws out : List ℕ) (count : ℕ) (out′ : List ℕ) (count′ : ℕ) : Type 0 where
-    pub fits : count′ ≤ cap
-    pub counts : count′ ≡ count + cond wanted 1 0
-    pub stores : out′ ≡ sets out (perEntry * count) (cond wanted ws [])
+  -- ---- the next run, within a ray
+  module _ (full : length (levels v xs) ≡ nr * nb) {at ray bin first held : ℕ} (g : Going at ray bin first held) (in-ray : bin < nb) (ray-lt : ray < nr) where
+    abbrev p : ℕ
+    p = ray * nb + bin
 
-  pub wrote : {wanted : Bool} {ws out out′ : List ℕ} {count count′ : ℕ} → wanted ≡ true → count < cap → out′ ≡ sets out (perEntry * count) ws → count′ ≡ count + 1 → Flushed wanted ws out count out′ count′
-  wrote e l o n = record { fits = omega arith; counts = rw e n; stores = rw e o }
+    abbrev kind : ℕ
+    kind = sc .kind (getD xs at 0)
 
-  pub passed : {wanted : Bool} {ws out out′ : List ℕ} {count count′ : ℕ} → wanted ≡ false → count ≤ cap → out′ ≡ out → count′ ≡ count → Flushed wanted ws out count out′ count′
-  passed e l o n = record { fits = omega arith; counts = rw e (omega arith); stores = rw e o }
+    more : p < length (levels v xs)
+    more = omega (arith, full, mul-le-mul-right nb ray-lt, suc-mul ray nb)
 
-  module _ {out : List ℕ} {count ray first end held : ℕ} {rest : List Entry} (c : Closing out count ray first end held rest) where
-    abbrev wanted : Bool
-    wanted = toList q (ray * nb + first) (ray * nb + end)
+    pub run-inside : at < length xs
+    run-inside = here-inside v xs at p (levels v xs) more (g .fed) (g .ready)
 
-    abbrev entry : List ℕ
-    entry = ray ∷ first ∷ (end - first) ∷ held ∷ []
+    pub run-fits : p + runLen v xs at ≤ nr * nb
+    run-fits = omega (arith, full, here-fits v xs at p (levels v xs) more (g .fed) (g .ready))
 
-    abbrev hand : List Entry
-    hand = inHand E q (ray * nb + first) (ray * nb + end)
+    run-kind : (x : ℕ) → p ≤ x → x < p + runLen v xs at → K x ≡ kind
+    run-kind x l u =
+        let e : p + (x - p) ≡ x = omega arith in
+        let w : x - p < runLen v xs at = omega arith in
+        ap (sc .kind) (ap (λ (y : ℕ). getD (levels v xs) y 0) (sym e) ∙ sym (getD-drop p (levels v xs) (x - p) 0)
+        ∙ ap (λ (l : List ℕ). getD l (x - p) 0) (here-run v xs at p (levels v xs) more (g .fed) (g .ready))
+        ∙ List·getD-append (replicate (runLen v xs at) (getD xs at 0)) _ 0 (x - p) (omega (arith, length-replicate (runLen v xs at) (getD xs at 0)))
+        ∙ getD-replicate (runLen v xs at) (x - p) (getD xs at 0) 0 w)
 
-    -- a stretch to list has a bin
-    has-bin : wanted ≡ true → ray * nb + first < ray * nb + end
-    unfolding toList
-    has-bin h = ltb-true (ray * nb + first) (ray * nb + end) (both (leb q (ray * nb + first)) (ltb (ray * nb + first) (ray * nb + end)) h .1)
+    -- a run of another kind begins a stretch, and the stretch in hand ends
+    starts-other : (kind ≡ held → ⊥) → S p ≡ true
+    starts-other n = go (decLt first bin)
+      where
+        go : Dec (first < bin) → S p ≡ true
+        go (yes l) =
+            fresh-other nb p (K p) (K (p - 1)) (λ z. omega (arith, place-bin nb ray bin in-ray))
+            (λ e. n (sym (run-kind p (omega arith) (omega arith)) ∙ e ∙ g .same (p - 1) (omega arith) (omega arith)))
+        go (no l) = let e : first ≡ bin = omega (arith, g .first-le) in subst (λ (b : ℕ). S (ray * nb + b) ≡ true) e (g .new)
 
-    entry-words : wanted ≡ true → words (E (ray * nb + first) (ray * nb + end - (ray * nb + first))) ≡ entry
-    entry-words h =
-        let r = place-ray nb ray first (c .first-lt) in
-        let b = place-bin nb ray first (c .first-lt) in
-        let n : ray * nb + end - (ray * nb + first) ≡ end - first = omega arith in
-        let k = c .same (ray * nb + first) (omega arith) (has-bin h) in
-        λ i. r i ∷ b i ∷ n i ∷ k i ∷ []
+    pub changing : (kind ≡ held → ⊥) → Closing ray first bin held
+    changing n = record {
+      first-lt = g .first-lt;
+      first-le = g .first-le;
+      in-ray = omega arith;
+      end-le = g .here-le;
+      same = g .same;
+      new = g .new;
+      next = starts-other n;
+    }
 
-    -- there is room for its words
-    pub put-room : count < cap → perEntry * count + perEntry ≤ length out
-    put-room h = omega (arith, ap length (c .out-is) ∙ length-sets out₀ 0 (wordsOf (c .done)))
+    pub going-changed : (kind ≡ held → ⊥) → Going at ray bin bin kind
+    going-changed n = record {
+      first-lt = in-ray;
+      first-le = omega arith;
+      here-le = g .here-le;
+      fed = g .fed;
+      ready = g .ready;
+      same = λ x a b. absurd (omega arith);
+      new = starts-other n;
+    }
 
-    module _ {out′ : List ℕ} {count′ : ℕ} (f : Flushed wanted entry out count out′ count′) where
-      put-whole : list ≡ (c .done ++ hand) ++ rest
-      put-whole = c .whole ∙ sym (append-assoc (c .done) hand rest)
+    -- a run of the kind in hand is taken
+    pub going-on : kind ≡ held → (len next : ℕ) → len ≡ runLen v xs at → next ≡ runNext v xs at → Going next ray (bin + len) first held
+    going-on k len next l n =
+        let e : ray * nb + (bin + len) ≡ p + runLen v xs at = omega arith in
+        record {
+          first-lt = g .first-lt;
+          first-le = omega (arith, g .first-le);
+          here-le = omega (arith, run-fits);
+          fed = ap (λ (x : ℕ). drop x (levels v xs)) e ∙ here-rest v xs at p (levels v xs) more (g .fed) (g .ready) ∙ ap (λ (x : ℕ). levels v (drop x xs)) (sym n);
+          ready = ap (λ (x : ℕ). opens v (drop x xs)) n ∙ here-opened v xs at p (levels v xs) more (g .fed) (g .ready);
+          same = λ x a b. go x a (omega arith) (decLt x p);
+          new = g .new;
+        }
+      where
+        go : (x : ℕ) → ray * nb + first ≤ x → x < p + runLen v xs at → Dec (x < p) → K x ≡ held
+        go x a b (yes h) = g .same x a h
+        go x a b (no h) = run-kind x (omega arith) b ∙ k
 
-      put-counted : count′ ≡ length (c .done ++ hand)
-      put-counted = omega (arith, f .counts, length-append (c .done) hand, hand-length E q (ray * nb + first) (ray * nb + end), c .counted)
+  -- ---- what is in hand reaches the end of the ray
+  module _ {at ray bin first held : ℕ} (g : Going at ray bin first held) (over : nb ≤ bin) where
+    starts-ray : S (ray * nb + nb) ≡ true
+    starts-ray =
+        fresh-ray nb (ray * nb + nb) (K (ray * nb + nb)) (K (ray * nb + nb - 1))
+        (ap (λ (x : ℕ). x % nb) (omega (arith, next-ray nb ray)) ∙ place-bin nb (ray + 1) 0 (omega (arith, g .first-lt)))
 
-      put-out : out′ ≡ sets out₀ 0 (wordsOf (c .done ++ hand))
-      put-out =
-          let e : 0 + length (wordsOf (c .done)) ≡ perEntry * count = omega (arith, length-words (c .done), c .counted) in
-          f .stores ∙ ap (sets out (perEntry * count)) (hand-words E q (ray * nb + first) (ray * nb + end) entry entry-words)
-          ∙ ap (λ (l : List ℕ). sets l (perEntry * count) (wordsOf hand)) (c .out-is)
-          ∙ ap (λ (x : ℕ). sets (sets out₀ 0 (wordsOf (c .done))) x (wordsOf hand)) (sym e)
-          ∙ sets-append (wordsOf (c .done)) out₀ (wordsOf hand) 0
-          ∙ ap (sets out₀ 0) (sym (words-append (c .done) hand))
+    pub ending : Closing ray first nb held
+    ending = record {
+      first-lt = g .first-lt;
+      first-le = omega (arith, g .first-lt);
+      in-ray = omega arith;
+      end-le = omega (arith, g .here-le);
+      same = λ x a b. g .same x a (omega arith);
+      new = g .new;
+      next = starts-ray;
+    }
 
-    -- there is no room for it: the next call begins with it
-    pub stuck : wanted ≡ true → cap ≤ count → Answers out₀ nr list [] (record { count = count; ray = ray; bin = first }) out
-    unfolding inHand
-    stuck h l =
-        let full : cap ≡ count = omega (arith, c .room) in
-        let one : hand ≡ E (ray * nb + first) (ray * nb + end - (ray * nb + first)) ∷ [] =
-        ap (λ (u : Bool). cond u (E (ray * nb + first) (ray * nb + end - (ray * nb + first)) ∷ []) []) h in
-        let a = answer-more out₀ nr list (c .done) (E (ray * nb + first) (ray * nb + end - (ray * nb + first))) rest (c .whole ∙ ap (λ (l : List Entry). c .done ++ (l ++ rest)) one) (omega (arith, c .counted)) in
-        ((λ i. record { count = (c .counted) i; ray = sym (place-ray nb ray first (c .first-lt)) i; bin = sym (place-bin nb ray first (c .first-lt)) i }) ∙ a .0, c .out-is ∙ a .1)
-
-  -- ---- a turn, with some of a run in hand
-  module _ (full : length (levels v xs) ≡ nr * nb) where
-    pub pending-length : {out : List ℕ} {feed : Feed} {ray bin first held count : ℕ} → Going out feed ray bin first held count → length (pending v xs feed) ≡ nr * nb - (ray * nb + bin)
-    pending-length {ray = ray} {bin = bin} g = ap length (sym (g .fed)) ∙ length-drop (ray * nb + bin) (levels v xs) ∙ ap (λ (x : ℕ). x - (ray * nb + bin)) full
-
-    module _ {out : List ℕ} {f : Feed} {ray bin first held count : ℕ} (g : Going out f ray bin first held count) (some : 0 < f .left) where
-      abbrev p : ℕ
-      p = ray * nb + bin
-
-      -- the run's levels, from here on
-      run-kind : (x : ℕ) → p ≤ x → x < p + f .left → K x ≡ sc .kind (f .level)
-      unfolding pending
-      run-kind x l u =
-          let e : p + (x - p) ≡ x = omega arith in
-          let w : x - p < f .left = omega arith in
-          ap (sc .kind) (ap (λ (y : ℕ). getD (levels v xs) y 0) (sym e) ∙ sym (getD-drop p (levels v xs) (x - p) 0)
-          ∙ ap (λ (l : List ℕ). getD l (x - p) 0) (g .fed)
-          ∙ List·getD-append (replicate (f .left) (f .level)) _ 0 (x - p) (subst (λ (y : ℕ). x - p < y) (sym (length-replicate (f .left) (f .level))) w)
-          ∙ getD-replicate (f .left) (x - p) (f .level) 0 w)
-
-      left-fits : p + f .left ≤ nr * nb
-      unfolding pending
-      left-fits =
-          omega (arith, pending-length g, g .here-le, length-append (replicate (f .left) (f .level)) (levels v (drop (f .at) xs)), length-replicate (f .left) (f .level))
-
-      -- a run of another kind begins a stretch here, and the one in hand ends
-      starts-other : (sc .kind (f .level) ≡ held → ⊥) → S p ≡ true
-      starts-other n = go (decLt first bin)
-        where
-          go : Dec (first < bin) → S p ≡ true
-          go (yes l) =
-              fresh-other nb p (K p) (K (p - 1)) (λ z. omega (arith, place-bin nb ray bin (g .bin-lt)))
-              (λ e. n (sym (run-kind p (omega arith) (omega arith)) ∙ e ∙ g .same (p - 1) (omega arith) (omega arith)))
-          go (no l) = g .new (omega (arith, g .first-le))
-
-      pub changing : (sc .kind (f .level) ≡ held → ⊥) → Closing out count ray first bin held (due ray bin bin)
-      changing n = record {
-        done = g .done;
-        whole = g .whole ∙ ap (λ (l : List Entry). g .done ++ l) (close-owed S E nb pl q (ray * nb + first) p (nr * nb - p) (starts-other n));
-        counted = g .counted;
-        room = g .room;
-        out-is = g .out-is;
-        first-lt = omega (arith, g .first-le, g .bin-lt);
-        same = g .same;
-      }
-
-      -- the stretch before it has been written
-      pub going-changed : (n : sc .kind (f .level) ≡ held → ⊥) {out′ : List ℕ} {count′ : ℕ}
-          → Flushed (toList q (ray * nb + first) (ray * nb + bin)) (ray ∷ first ∷ (bin - first) ∷ held ∷ []) out count out′ count′ → (k : ℕ) → Going out′ f ray bin bin k count′
-      going-changed n w k =
-          record {
-            bin-lt = g .bin-lt;
-            first-le = omega arith;
-            here-le = g .here-le;
-            fed = g .fed;
-            ready = g .ready;
-            same = λ x a b. absurd (omega arith);
-            new = λ _. starts-other n;
-            done = changing n .done ++ inHand E q (ray * nb + first) p;
-            whole = put-whole (changing n) w;
-            counted = put-counted (changing n) w;
-            room = w .fits;
-            out-is = put-out (changing n) w;
-          }
-
-      -- ---- n bins of the run, all in this ray and of the kind in hand
-      module _ (kind : sc .kind (f .level) ≡ held) (n : ℕ) (n-some : 0 < n) (n-left : n ≤ f .left) (n-ray : bin + n ≤ nb) where
-        taken-same : (x : ℕ) → ray * nb + first ≤ x → x < p + n → K x ≡ held
-        taken-same x l u = go (decLt x p)
-          where
-            go : Dec (x < p) → K x ≡ held
-            go (yes a) = g .same x l a
-            go (no a) = run-kind x (omega arith) (omega arith) ∙ kind
-
-        taken-le : p + n ≤ nr * nb
-        taken-le = omega (arith, left-fits)
-
-        taken-fed : drop (p + n) (levels v xs) ≡ pending v xs (record { at = f .at; left = f .left - n; level = f .level })
-        unfolding pending
-        taken-fed = sym (drop-drop n p (levels v xs)) ∙ ap (drop n) (g .fed) ∙ drop-replicate n (f .left) (f .level) _ n-left
-
-        taken-whole : list ≡ g .done ++ owed S E nb pl q (ray * nb + first) (p + n) (nr * nb - (p + n))
-        taken-whole =
-            let e : nr * nb - p ≡ n + (nr * nb - (p + n)) = omega (arith, taken-le) in
-            g .whole ∙ ap (λ (m : ℕ). g .done ++ owed S E nb pl q (ray * nb + first) p m) e
-            ∙ ap (λ (l : List Entry). g .done ++ l) (advance-owed S E nb pl q (ray * nb + first) p n (nr * nb - (p + n)) (omega (arith, g .first-le)) n-some (λ z. g .new (omega arith)) old silent)
-          where
-            at-bin : p % nb ≡ bin
-            at-bin = place-bin nb ray bin (g .bin-lt)
-
-            old : ray * nb + first < p → S p ≡ false
-            old l =
-                fresh-same nb p (K p) (K (p - 1)) (λ z. omega (arith, at-bin))
-                (run-kind p (omega arith) (omega arith) ∙ kind ∙ sym (g .same (p - 1) (omega arith) (omega arith)))
-
-            silent : (x : ℕ) → suc p ≤ x → x < suc p + (n - 1) → S x ≡ false
-            silent x a b = quiet K nb p n held (omega (arith, at-bin)) (λ y c d. run-kind y c (omega arith) ∙ kind) x a (omega arith)
-
-      -- the run ends before the ray does
-      pub going-on : sc .kind (f .level) ≡ held → bin + f .left < nb → Going out (record { at = f .at; left = 0; level = f .level }) ray (bin + f .left) first held count
-      going-on kind lt =
-          let e : ray * nb + (bin + f .left) ≡ p + f .left = omega arith in
-          let none : f .left - f .left ≡ 0 = omega arith in
-          record {
-            bin-lt = lt;
-            first-le = omega (arith, g .first-le);
-            here-le = omega (arith, left-fits);
-            fed = ap (λ (x : ℕ). drop x (levels v xs)) e ∙ taken-fed kind (f .left) some (omega arith) (omega arith) ∙ ap (λ (x : ℕ). pending v xs (record { at = f .at; left = x; level = f .level })) none;
-            ready = g .ready;
-            same = λ x a b. taken-same kind (f .left) some (omega arith) (omega arith) x a (omega arith);
-            new = λ z. absurd (omega (arith, g .first-le));
-            done = g .done;
-            whole = taken-whole kind (f .left) some (omega arith) (omega arith) ∙ ap (λ (x : ℕ). g .done ++ owed S E nb pl q (ray * nb + first) x (nr * nb - x)) (sym e);
-            counted = g .counted;
-            room = g .room;
-            out-is = g .out-is;
-          }
-
-      -- the ray ends first, and the stretch in hand with it
-      module _ (kind : sc .kind (f .level) ≡ held) (ge : nb - bin ≤ f .left) where
-        abbrev n : ℕ
-        n = nb - bin
-
-        to-end : p + n ≡ ray * nb + nb
-        to-end = omega (arith, g .bin-lt)
-
-        starts-ray : S (ray * nb + nb) ≡ true
-        starts-ray =
-            fresh-ray nb (ray * nb + nb) (K (ray * nb + nb)) (K (ray * nb + nb - 1))
-            (ap (λ (x : ℕ). x % nb) (sym (ray-end nb ray)) ∙ place-bin nb (ray + 1) 0 (omega (arith, g .bin-lt)))
-
-        end-same : (x : ℕ) → ray * nb + first ≤ x → x < ray * nb + nb → K x ≡ held
-        end-same x a b = taken-same kind n (omega (arith, g .bin-lt)) ge (omega (arith, g .bin-lt)) x a (omega (arith, to-end))
-
-        pub ending : Closing out count ray first nb held (due ray nb nb)
-        ending = record {
-          done = g .done;
-          whole =
-              taken-whole kind n (omega (arith, g .bin-lt)) ge (omega (arith, g .bin-lt))
-              ∙ ap (λ (x : ℕ). g .done ++ owed S E nb pl q (ray * nb + first) x (nr * nb - x)) to-end
-              ∙ ap (λ (l : List Entry). g .done ++ l) (close-owed S E nb pl q (ray * nb + first) (ray * nb + nb) (nr * nb - (ray * nb + nb)) starts-ray);
-          counted = g .counted;
-          room = g .room;
-          out-is = g .out-is;
-          first-lt = omega (arith, g .first-le, g .bin-lt);
-          same = end-same;
+    -- the rest of it is in hand on the next ray
+    pub going-ended : Going at (ray + 1) (bin - nb) 0 held
+    going-ended =
+        let here : (ray + 1) * nb + (bin - nb) ≡ ray * nb + bin = omega (arith, next-ray nb ray) in
+        let start : ray * nb + nb ≡ (ray + 1) * nb + 0 = omega (arith, next-ray nb ray) in
+        record {
+          first-lt = omega (arith, g .first-lt);
+          first-le = omega arith;
+          here-le = omega (arith, g .here-le);
+          fed = ap (λ (x : ℕ). drop x (levels v xs)) here ∙ g .fed;
+          ready = g .ready;
+          same = λ x a b. g .same x (omega (arith, g .first-lt)) (omega arith);
+          new = subst (λ (x : ℕ). S x ≡ true) start starts-ray;
         }
 
-        pub going-ended : {out′ : List ℕ} {count′ : ℕ} → Flushed (toList q (ray * nb + first) (ray * nb + nb)) (ray ∷ first ∷ (nb - first) ∷ held ∷ []) out count out′ count′
-            → Going out′ (record { at = f .at; left = f .left - n; level = f .level }) (ray + 1) 0 0 held count′
-        going-ended w =
-            let e = ray-end nb ray in
-            record {
-              bin-lt = omega (arith, g .bin-lt);
-              first-le = omega arith;
-              here-le = omega (arith, e, to-end, taken-le kind n (omega (arith, g .bin-lt)) ge (omega (arith, g .bin-lt)));
-              fed = ap (λ (x : ℕ). drop x (levels v xs)) (e ∙ sym to-end) ∙ taken-fed kind n (omega (arith, g .bin-lt)) ge (omega (arith, g .bin-lt));
-              ready = g .ready;
-              same = λ x a b. absurd (omega arith);
-              new = λ _. subst (λ (x : ℕ). S x ≡ true) (sym e) starts-ray;
-              done = ending .done ++ inHand E q (ray * nb + first) (ray * nb + nb);
-              whole =
-                  put-whole ending w
-                  ∙ ap (λ (x : ℕ). (ending .done ++ inHand E q (ray * nb + first) (ray * nb + nb)) ++ owed S E nb pl q x x (nr * nb - x)) (sym e);
-              counted = put-counted ending w;
-              room = w .fits;
-              out-is = put-out ending w;
-            }
+  -- ---- the writing, with room for cap entries
+  module _ (q cap : ℕ) where
+    -- the list from place s on
+    abbrev onward : ℕ → List Entry
+    onward s = past nb q (listFrom S E s (nr * nb - s))
 
-        -- a turn takes some bins, and no more than there are
-        pub ended-more : ray * nb + bin < (ray + 1) * nb + 0
-        ended-more = omega (arith, ray-end nb ray, g .bin-lt)
+    -- what the call ends with, where count entries are written and the list from bin first of a ray on is still to write
+    abbrev pub due : List ℕ → ℕ → ℕ → ℕ → Outcome
+    due out count ray first = finished nr cap out count (onward (ray * nb + first))
+
+    -- nothing is left
+    pub ended : {at ray bin first held : ℕ} → Going at ray bin first held → nr ≤ ray → (out : List ℕ) (count : ℕ)
+        → due out count ray first ≡ record { listing = record { count = count; ray = nr; bin = 0 }; out = out }
+    unfolding listFrom past
+    ended {at} {ray} {bin} {first} {held} g h out count =
+        let r : ray * nb ≡ nr * nb = ap (λ (x : ℕ). x * nb) (omega (arith, ray-le g)) in
+        let z : nr * nb - (ray * nb + first) ≡ 0 = omega arith in
+        ap (λ (m : ℕ). finished nr cap out count (past nb q (listFrom S E (ray * nb + first) m))) z ∙ finish-all nr cap out count
+
+    module _ {ray first end held : ℕ} (c : Closing ray first end held) where
+      abbrev s : ℕ
+      s = ray * nb + first
+
+      abbrev e : ℕ
+      e = ray * nb + end
+
+      abbrev entry : Entry
+      entry = record { ray = ray; first = first; len = end - first; kind = held }
+
+      closed : onward s ≡ cond (toList q s e) (E s (e - s) ∷ onward e) (onward e)
+      closed =
+          let size : nr * nb - s ≡ e - s + (nr * nb - e) = omega (arith, c .end-le, c .first-le) in
+          let still : (x : ℕ) → suc s ≤ x → x < suc s + (e - suc s) → S x ≡ false =
+          λ x a b. quiet K nb s (e - s) held (omega (arith, place-bin nb ray first (c .first-lt), c .in-ray, c .first-le)) (λ y d f. c .same y d (omega arith)) x a (omega arith) in
+          ap (λ (m : ℕ). past nb q (listFrom S E s m)) size
+          ∙ close-list S E nb (λ p n. div-add-mod' p nb) q s e (nr * nb - e) (omega (arith, c .first-le)) (c .new) still (c .next)
+
+      -- a stretch to list has a bin
+      has-bin : toList q s e ≡ true → s < e
+      unfolding toList
+      has-bin h = ltb-true s e (both (leb q s) (ltb s e) h .1)
+
+      -- it is an entry, the next of the list
+      listed-next : toList q s e ≡ true → onward s ≡ entry ∷ onward e
+      listed-next h =
+          let r = place-ray nb ray first (c .first-lt) in
+          let b = place-bin nb ray first (c .first-lt) in
+          let n : e - s ≡ end - first = omega arith in
+          let k = c .same s (omega arith) (has-bin h) in
+          closed ∙ ap (λ (u : Bool). cond u (E s (e - s) ∷ onward e) (onward e)) h ∙ λ i. record { ray = r i; first = b i; len = n i; kind = k i } ∷ onward e
+
+      -- one that is not to list is passed over
+      pub passed : {wanted : Bool} → wanted ≡ toList q s e → wanted ≡ false → (out : List ℕ) (count : ℕ) → due out count ray first ≡ due out count ray end
+      passed w h out count = ap (finished nr cap out count) (closed ∙ ap (λ (u : Bool). cond u (E s (e - s) ∷ onward e) (onward e)) (sym w ∙ h))
+
+      -- one to list is written
+      pub wrote : {wanted : Bool} → wanted ≡ toList q s e → wanted ≡ true → (out out′ : List ℕ) (count : ℕ) → count < cap → out′ ≡ sets out (perEntry * count) (words entry) → due out count ray first ≡ due out′ (count + 1) ray end
+      wrote w h out out′ count l o =
+          ap (finished nr cap out count) (listed-next (sym w ∙ h)) ∙ finish-put nr cap out count entry (onward e) l ∙ ap (λ (x : List ℕ). due x (count + 1) ray end) (sym o)
+
+      -- or there is no room for it, and the next call begins with it
+      pub stuck : {wanted : Bool} → wanted ≡ toList q s e → wanted ≡ true → (out : List ℕ) (count : ℕ) → cap ≤ count
+          → due out count ray first ≡ record { listing = record { count = count; ray = ray; bin = first }; out = out }
+      stuck w h out count l = ap (finished nr cap out count) (listed-next (sym w ∙ h)) ∙ finish-full nr cap out count entry (onward e) l
+
+  -- where the listing begins, all that is promised is due
+  pub due-start : (q : ℕ) (out : List ℕ) → promised nr out (listed sc v xs nb nr q) ≡ due q (length out / perEntry) out 0 0 0
+  unfolding listed
+  due-start q out =
+      let z : 0 ≡ 0 * nb + 0 = omega (arith, zero-mul nb) in
+      let left : nr * nb ≡ nr * nb - (0 * nb + 0) = omega arith in
+      finish-start nr out (listed sc v xs nb nr q) ∙ λ i. finished nr (length out / perEntry) out 0 (past nb q (listFrom S E (z i) (left i)))

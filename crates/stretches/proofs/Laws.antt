@@ -1,17 +1,17 @@
--- The list by starts: what is owed at a place, with a stretch in hand, as places pass. For any kinds, tests and entries.
+-- The list by starts: from a start on it is the stretch up to the next start, and then the list from there on. For any kinds, tests and entries.
 use Prim.Native.Nat.{ℕ, zero, suc, _+_, _-_, _*_, _%_, _≤_, _<_}
 use mathlib.Core.Path.{_≡_, refl, ap, sym, subst, _∙_}
 use mathlib.Core.Logic.{_⊎_, inl, inr}
-use mathlib.Core.Bool.{Bool, true, false, cond, _&&_, true≢false, and-false}
-use mathlib.Core.List.{List, [], _∷_, _++_}
-use native.Mathlib.Nat.{zero-add, add-zero, suc-add, add-suc, zero-mod, mod-add-mod, mod-eq-of-lt}
+use mathlib.Core.Bool.{Bool, true, false, cond, true≢false, and-true, and-false}
+use mathlib.Core.List.{List, [], _∷_}
+use native.Mathlib.Nat.{zero-add, add-zero, suc-add, zero-mod, mod-add-mod, mod-eq-of-lt}
 use native.Mathlib.Decide.{decLt}
 use native.Mathlib.Omega.{arith}
 use lib.ListN.{length, set}
 use lib.Seq.{sets}
 use lib.Dec.{leb, ltb, eqb}
 use borrow.Author.Tests.{lt-ltb, le-ltb, le-leb, lt-leb, eq-eqb, ne-eqb, eqb-true, eqb-false}
-use Rattle.stretches.specs.Stretch.{Entry, perEntry, fresh, starts, more, listFrom, past, words, wordsOf, toList}
+use Rattle.stretches.specs.Stretch.{Entry, perEntry, fresh, starts, more, listFrom, past, wordsOf, toList}
 
 -- ---- the test for a start
 
@@ -45,7 +45,7 @@ fresh-true nb p k j h = go (eqb (p % nb) 0) refl (eqb k j) refl
     go false e true u = absurd (true≢false (rw (e, u) at (sym h)))
     go false e false u = inr (eqb-false k j u)
 
--- ---- the stretch in hand
+-- ---- whether a stretch is to list
 
 pub hand-early : (q s p : ℕ) → s < q → toList q s p ≡ false
 unfolding toList
@@ -55,32 +55,7 @@ pub hand-none : (q s p : ℕ) → p ≤ s → toList q s p ≡ false
 unfolding toList
 hand-none q s p h = rw (le-ltb s p h) (and-false (leb q s))
 
--- the entry of the stretch in hand, where it is one to list
-unfoldable pub inHand : (ℕ → ℕ → Entry) → ℕ → ℕ → ℕ → List Entry
-inHand E q s p = cond (toList q s p) (E s (p - s) ∷ []) []
-
-pub hand-length : (E : ℕ → ℕ → Entry) (q s p : ℕ) → length (inHand E q s p) ≡ cond (toList q s p) 1 0
-unfolding inHand
-hand-length E q s p = at (toList q s p)
-  where
-    at : (b : Bool) → length (cond b (E s (p - s) ∷ []) []) ≡ cond b 1 0
-    at true = refl
-    at false = refl
-
-pub hand-words : (E : ℕ → ℕ → Entry) (q s p : ℕ) (ws : List ℕ) → (toList q s p ≡ true → words (E s (p - s)) ≡ ws) → cond (toList q s p) ws [] ≡ wordsOf (inHand E q s p)
-unfolding inHand wordsOf
-hand-words E q s p ws e = at (toList q s p) e
-  where
-    at : (b : Bool) → (b ≡ true → words (E s (p - s)) ≡ ws) → cond b ws [] ≡ wordsOf (cond b (E s (p - s) ∷ []) [])
-    at true h = sym (h refl)
-    at false h = refl
-
 -- ---- words and stores
-
-pub words-append : (a b : List Entry) → wordsOf (a ++ b) ≡ wordsOf a ++ wordsOf b
-unfolding wordsOf
-words-append [] b = refl
-words-append (e ∷ a) b = rw (words-append a b)
 
 pub length-words : (a : List Entry) → length (wordsOf a) ≡ perEntry * length a
 unfolding wordsOf
@@ -100,10 +75,6 @@ words-same (e ∷ a) (f ∷ b) h =
     let k : e .kind ≡ f .kind = cc in
     let w : wordsOf a ≡ wordsOf b = cc in
     λ j. record { ray = r j; first = i j; len = l j; kind = k j } ∷ words-same a b w j
-
-pub sets-append : (vs l ws : List ℕ) (i : ℕ) → sets (sets l i vs) (i + length vs) ws ≡ sets l i (vs ++ ws)
-sets-append [] l ws i = rw add-zero
-sets-append (a ∷ vs) l ws i = rw (add-suc, ← suc-add) (sets-append vs (set l i a) ws (suc i))
 
 pub four-stores : (l : List ℕ) (i a b c d : ℕ) → set (set (set (set l i a) (i + 1) b) (i + 2) c) (i + 3) d ≡ sets l i (a ∷ b ∷ c ∷ d ∷ [])
 four-stores l i a b c d =
@@ -136,7 +107,7 @@ module _ (S : ℕ → Bool) where
   abbrev pub Quiet : ℕ → ℕ → Type 0
   Quiet p n = (x : ℕ) → p ≤ x → x < p + n → S x ≡ false
 
-  pub skip-more : (n p m : ℕ) → Quiet p n → more S p (n + m) ≡ n + more S (p + n) m
+  skip-more : (n p m : ℕ) → Quiet p n → more S p (n + m) ≡ n + more S (p + n) m
   unfolding more
   skip-more zero p m q = rw (zero-add m, add-zero p, zero-add (more S p m))
   skip-more (suc n) p m q =
@@ -148,15 +119,6 @@ module _ (S : ℕ → Bool) where
   unfolding more
   more-start p zero h = refl
   more-start p (suc m) h = rw h
-
-  pub more-le : (m p : ℕ) → more S p m ≤ m
-  unfolding more
-  more-le zero p = omega arith
-  more-le (suc m) p = go (S p) (more-le m (suc p))
-    where
-      go : (b : Bool) → more S (suc p) m ≤ m → cond b 0 (suc (more S (suc p) m)) ≤ suc m
-      go true h = omega arith
-      go false h = omega arith
 
   pub more-quiet : (m p : ℕ) → Quiet p (more S p m)
   unfolding more
@@ -191,80 +153,36 @@ module _ (S : ℕ → Bool) (E : ℕ → ℕ → Entry) (nb : ℕ) (placed : (p 
       let ih : listFrom S E (suc p) (n + m) ≡ listFrom S E (suc p + n) m = skip-list n (suc p) m (λ x l h. q x (omega arith) (omega arith)) in
       rw (suc-add, q p (omega arith) (omega arith)) (ih ∙ ap (λ (x : ℕ). listFrom S E x m) (omega arith))
 
-  -- what is still to be listed at place p, with the stretch in hand from place s, and m places left
-  unfoldable pub owed : ℕ → ℕ → ℕ → ℕ → List Entry
-  owed q s p m = inHand E q s (p + more S p m) ++ past nb q (listFrom S E p m)
+  past-cons : (q p n : ℕ) (es : List Entry) → 0 < n → past nb q (E p n ∷ es) ≡ cond (toList q p (p + n)) (E p n ∷ past nb q es) (past nb q es)
+  unfolding past toList
+  past-cons q p n es h = rw (placed p n, lt-ltb p (p + n) (omega arith), and-true (leb q p))
 
-  pub past-cons : (q p n : ℕ) (es : List Entry) → 0 < n → past nb q (E p n ∷ es) ≡ inHand E q p (p + n) ++ past nb q es
-  unfolding past inHand toList
-  past-cons q p n es h =
-      let l : p + n - p ≡ n = omega arith in
-      rw (placed p n, lt-ltb p (p + n) (omega arith), l) (at (leb q p))
-    where
-      at : (b : Bool) → cond b (E p n ∷ past nb q es) (past nb q es) ≡ cond (b && true) (E p n ∷ []) [] ++ past nb q es
-      at true = refl
-      at false = refl
-
-  pub quiet-owed : (q s p n m : ℕ) → Quiet S p n → owed q s p (n + m) ≡ owed q s (p + n) m
-  unfolding owed
-  quiet-owed q s p n m h =
-      let e : p + (n + more S (p + n) m) ≡ p + n + more S (p + n) m = omega arith in
-      rw (skip-more S n p m h, skip-list n p m h, e)
-
-  -- at a start the stretch in hand is whole
-  pub start-owed : (q s p m : ℕ) → S p ≡ true → owed q s p m ≡ inHand E q s p ++ past nb q (listFrom S E p m)
-  unfolding owed
-  start-owed q s p m h = rw (more-start S p m h, add-zero)
-
-  -- with none in hand nothing else is owed
-  pub fresh-owed : (q p m : ℕ) → S p ≡ true → owed q p p m ≡ past nb q (listFrom S E p m)
-  unfolding inHand
-  fresh-owed q p m h = start-owed q p p m h ∙ rw (hand-none q p p (omega arith))
-
-  pub list-start : (p m : ℕ) → S p ≡ true → listFrom S E p (suc m) ≡ E p (suc (more S (suc p) m)) ∷ listFrom S E (suc p) m
+  list-start : (p m : ℕ) → S p ≡ true → listFrom S E p (suc m) ≡ E p (suc (more S (suc p) m)) ∷ listFrom S E (suc p) m
   unfolding listFrom
   list-start p m h = rw h
 
-  -- and a new one is in hand after it
-  pub begun-owed : (q p n m : ℕ) → S p ≡ true → Quiet S (suc p) n → past nb q (listFrom S E p (suc n + m)) ≡ owed q p (p + suc n) m
-  unfolding owed
-  begun-owed q p n m h qu =
-      let e : p + suc (n + more S (suc p + n) m) ≡ p + suc n + more S (suc p + n) m = omega arith in
-      let a : suc p + n ≡ p + suc n = omega arith in
-      rw (suc-add n m, list-start p (n + m) h, skip-more S n (suc p) m qu, skip-list n (suc p) m qu, past-cons q p (suc (n + more S (suc p + n) m)) (listFrom S E (suc p + n) m) (omega arith), e, a)
-
-  -- at a start what is owed is the stretch in hand, and then what is owed with none in hand
-  pub close-owed : (q s p m : ℕ) → S p ≡ true → owed q s p m ≡ inHand E q s p ++ owed q p p m
-  close-owed q s p m h = start-owed q s p m h ∙ ap (λ (l : List Entry). inHand E q s p ++ l) (sym (fresh-owed q p m h))
-
-  -- n places on, of which only the first can begin a stretch: it does so where none is in hand
-  pub advance-owed : (q s p n m : ℕ) → s ≤ p → 0 < n → (s ≡ p → S p ≡ true) → (s < p → S p ≡ false) → Quiet S (suc p) (n - 1) → owed q s p (n + m) ≡ owed q s (p + n) m
-  advance-owed q s p n m l some new old quiet = go (decLt s p)
+  -- the stretch from a start s goes up to the next start e
+  pub close-list : (q s e m : ℕ) → s ≤ e → S s ≡ true → Quiet S (suc s) (e - suc s) → S e ≡ true
+      → past nb q (listFrom S E s (e - s + m)) ≡ cond (toList q s e) (E s (e - s) ∷ past nb q (listFrom S E e m)) (past nb q (listFrom S E e m))
+  close-list q s e m l start still next = go (decLt s e)
     where
-      go : Dec (s < p) → owed q s p (n + m) ≡ owed q s (p + n) m
-      go (yes a) = quiet-owed q s p n m all
-        where
-          all : Quiet S p n
-          all x b c = pick (decLt p x)
-            where
-              pick : Dec (p < x) → S x ≡ false
-              pick (yes d) = quiet x d (omega arith)
-              pick (no d) = let e : p ≡ x = omega arith in subst (λ (y : ℕ). S y ≡ false) e (old a)
+      go : Dec (s < e) → past nb q (listFrom S E s (e - s + m)) ≡ cond (toList q s e) (E s (e - s) ∷ past nb q (listFrom S E e m)) (past nb q (listFrom S E e m))
+      go (yes a) =
+          let n : ℕ = e - suc s in
+          let size : e - s + m ≡ suc (n + m) = omega arith in
+          let to : suc s + n ≡ e = omega arith in
+          let none : more S (suc s) (n + m) ≡ n = skip-more S n (suc s) m still ∙ ap (λ (x : ℕ). n + more S x m) to ∙ ap (λ (x : ℕ). n + x) (more-start S e m next) ∙ add-zero n in
+          let on : listFrom S E (suc s) (n + m) ≡ listFrom S E e m = skip-list n (suc s) m still ∙ ap (λ (x : ℕ). listFrom S E x m) to in
+          let len : suc n ≡ e - s = omega arith in
+          let end : s + suc n ≡ e = omega arith in
+          ap (λ (x : ℕ). past nb q (listFrom S E s x)) size
+          ∙ ap (past nb q) (list-start s (n + m) start ∙ λ i. E s (suc (none i)) ∷ on i)
+          ∙ past-cons q s (suc n) (listFrom S E e m) (omega arith)
+          ∙ (λ i. cond (toList q s (end i)) (E s (len i) ∷ past nb q (listFrom S E e m)) (past nb q (listFrom S E e m)))
       go (no a) =
-          let e : s ≡ p = omega arith in
-          let k : suc (n - 1) ≡ n = omega arith in
-          let h : S p ≡ true = new e in
-          ap (λ (x : ℕ). owed q x p (n + m)) e
-          ∙ fresh-owed q p (n + m) h
-          ∙ ap (λ (x : ℕ). past nb q (listFrom S E p (x + m))) (sym k)
-          ∙ begun-owed q p (n - 1) m h quiet
-          ∙ ap (λ (x : ℕ). owed q p (p + x) m) k
-          ∙ ap (λ (x : ℕ). owed q x (p + n) m) (sym e)
-
-  -- where no place is left and none is in hand
-  pub end-owed : (q p : ℕ) → owed q p p 0 ≡ []
-  unfolding owed more listFrom past inHand
-  end-owed q p = rw (add-zero, hand-none q p p (omega arith))
+          let same : s ≡ e = omega arith in
+          let size : e - s + m ≡ m = omega arith in
+          rw (hand-none q s e (omega arith)) (λ i. past nb q (listFrom S E (same i) (size i)))
 
 -- in a ray, whose bins begin at place o
 pub hand-in-ray : (q o a b : ℕ) → q ≤ o + a → ltb a b ≡ toList q (o + a) (o + b)

@@ -3,7 +3,6 @@ pub mod Points
 pub mod Meaning
 pub mod Rising
 pub mod Portions
-pub mod Refilling
 pub mod Going
 pub mod Scales
 pub mod Answers

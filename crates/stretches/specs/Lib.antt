@@ -2,4 +2,3 @@ pub mod Stretch
 pub mod Call
 pub mod Meaning
 pub mod Portions
-pub mod Feed

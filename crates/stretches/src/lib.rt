@@ -12,7 +12,6 @@ ghost use lib.ListN.{length, drop};
 ghost use lib.Seq.{sets};
 ghost use Rattle.runs.specs.Run.{opens};
 ghost use Rattle.values.specs.Published.{levelCount};
-ghost use Rattle.stretches.specs.Feed.{pending, Refilled};
 ghost use Rattle.stretches.specs.Stretch.{perEntry, toList};
 ghost use Rattle.stretches.specs.Call.{Part, scaleOf, scaleBy, listed, answerOf, outOf, rightT, rightPoint};
 
@@ -27,33 +26,6 @@ pub struct Listing {
     pub count: usize,
     pub ray: usize,
     pub bin: usize,
-}
-
-// Where reading stands: the place of the next level octet, and what is left of the run in hand.
-struct Feed {
-    at: usize,
-    left: usize,
-    level: u8,
-}
-
-// The same feed with some of a run in hand.
-fn refilled(octets: &[u8], v: u8, f: Feed) -> Feed
-    requires { ⌜ (v ≤ 253) × (opens v (drop (f .at) (now octets)) ≡ true) ⌝ }
-    requires { ⌜ (0 < length (pending v (now octets) f)) × (length (pending v (now octets) f) ≤ 2097152) ⌝ }
-    ensures { λ r. ⌜ Refilled v (now (octets .entry)) f r ⌝ }
-{
-    let left = f.left;
-    if 0 < left {
-        return f;
-    }
-    let at = f.at;
-    let level = octets[at];
-    let run = runs::known_run(octets, v, at);
-    Feed {
-        at: run.next,
-        left: run.len,
-        level,
-    }
 }
 
 // Whether the bins of a ray from first up to end are a stretch to list, where the list begins at place from.
@@ -81,8 +53,9 @@ fn put(out: &mut [u32], count: usize, ray: usize, first: usize, len: usize, kind
 
 // The stretches by a table of kinds that start at place from or past it, as many as out has room for.
 //
-// A turn takes what the run in hand has of the ray. The stretch in hand, bins first up to bin of the ray, ends before it if the kinds
-// differ, and ends at the ray's end whatever comes after.
+// A turn takes a run. The stretch in hand, bins first up to bin of the ray, ends before it if the kinds differ. Where the run reaches the
+// end of the ray, the stretch ends there whatever comes after, and the rest of the run stands on the rays that follow: a turn of the
+// inner loop for each.
 fn list_by(
     octets: &[u8],
     v: u8,
@@ -97,21 +70,16 @@ fn list_by(
     ensures { λ _. ⌜ now (out .exit) ≡ outOf (now (out .entry)) (listed (scaleBy (now (kinds .entry))) v (now (octets .entry)) nb nr from) ⌝ }
 {
     let cap = out.len() / WORDS;
-    let mut feed = Feed {
-        at: 0,
-        left: 0,
-        level: 0,
-    };
+    let mut at: usize = 0;
     let mut ray: usize = 0;
     let mut bin: usize = 0;
     let mut first: usize = 0;
     let mut held: u32 = 0;
     let mut count: usize = 0;
     while ray < nr {
-        let f = refilled(octets, v, feed);
-        let at = f.at;
-        let left = f.left;
-        let level = f.level;
+        let level = octets[at];
+        let run = runs::known_run(octets, v, at);
+        at = run.next;
         let kind = kinds[level as usize];
         if kind != held {
             if to_list(nb, from, ray, first, bin) {
@@ -119,7 +87,7 @@ fn list_by(
                     return Listing {
                         count,
                         ray,
-                        bin: first,
+                        bin: first, // no room: the next call begins with this stretch
                     };
                 }
                 put(out, count, ray, first, bin - first, held);
@@ -128,31 +96,23 @@ fn list_by(
             first = bin;
             held = kind;
         }
-        let room = nb - bin;
-        if left < room {
-            bin = bin + left;
-            feed = Feed { at, left: 0, level };
-            continue;
-        }
-        if to_list(nb, from, ray, first, nb) {
-            if cap <= count {
-                return Listing {
-                    count,
-                    ray,
-                    bin: first,
-                };
+        bin = bin + run.len;
+        while nb <= bin {
+            if to_list(nb, from, ray, first, nb) {
+                if cap <= count {
+                    return Listing {
+                        count,
+                        ray,
+                        bin: first,
+                    };
+                }
+                put(out, count, ray, first, nb - first, held);
+                count = count + 1;
             }
-            put(out, count, ray, first, nb - first, held);
-            count = count + 1;
+            ray = ray + 1;
+            bin = bin - nb;
+            first = 0;
         }
-        ray = ray + 1;
-        bin = 0;
-        first = 0;
-        feed = Feed {
-            at,
-            left: left - room,
-            level,
-        };
     }
     Listing {
         count,
