@@ -374,7 +374,9 @@ fn is_closed(s: &[u8], st: State) -> bool
     (st.previous == 7) & rules::fields8(s, at)
 }
 
-// All the checks at the cursor, in order: 3, 9, then the section's own.
+// All the checks at the cursor, in order: 3, 9, then the section's own. No cut begins with a section 7, so 9 is not asked there. It is judged by a
+// call of its own, beside the one in `judge`, for speed: what is called from two places stays a function by itself, and the scan's loop, where
+// nearly all the time goes, has the registers to itself.
 fn judge_here(s: &[u8], end: usize, st: State) -> Judged
     requires { ⌜ Sound (now s) end st ⌝ }
     ensures { λ r. ⌜ r ≡ firstFault (checksAt (now (s .entry)) end (contextIn st) (st .at)) ⌝ }
@@ -385,6 +387,9 @@ fn judge_here(s: &[u8], end: usize, st: State) -> Judged
     }
     if is_framed(s, end, st) {
         let n = rules::field8(s, at, 5);
+        if n == 7 {
+            return judge7(s, st);
+        }
         return unless(has_room(s, st), FileRefusal::CutCount(at), judge(s, st, n));
     }
     Judged::Wrong(FileRefusal::Frame(at))
