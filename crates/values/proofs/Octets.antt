@@ -1,32 +1,34 @@
 -- Section 5's table: two octets write a value exactly when the number that they write is its sign and magnitude, and a table is right
 -- from a place on when that pair is and the rest is.
 use mathlib.Core.Path.{_≡_, refl, _∙_, ap, sym}
-use mathlib.Core.Bool.{Bool, true, false, _&&_}
+use mathlib.Core.Bool.{Bool, true, false, _&&_, cond}
 use mathlib.Core.List.{List, [], _∷_}
-use Prim.Native.Nat.{ℕ, suc, _+_, _*_, _/_, _%_, _≤_, _<_}
+use Prim.Native.Nat.{ℕ, zero, suc, _+_, _*_, _/_, _%_, _≤_, _<_}
 use native.Mathlib.Numerals.{add-one}
 use native.Mathlib.Omega.{arith}
-use lib.Dec.{eqb}
+use lib.Dec.{eqb, ltb}
 use lib.IntN.{ℤ, pos}
 use lib.ListN.{length, getD, drop, drop-of-length-le}
 use lib.Seq.{drop-cons}
-use borrow.Author.Tests.{eq-eqb, ne-eqb, eqb-true, eqb-false}
-use Rattle.values.specs.Table.{signMagnitude, pairRight, octetsOf, same, tableOctets, tableRight}
+use borrow.Author.Tests.{eq-eqb, ne-eqb, eqb-true, eqb-false, ltb-true}
+use Rattle.values.specs.Published.{tableOf}
+use Rattle.values.specs.Table.{signMagnitude, pairRight, octetsOf, same, Writable, tableOctets, tableRight}
 use Rattle.values.specs.declared.Product.{Product}
+use Rattle.values.specs.declared.Product.the-variants.{Reflectivity, Velocity}
 
 -- ---- a pair of octets
--- the number's digits in base 256
-digits : (h l n : ℕ) → l < 256 → eqb (h * 256 + l) n ≡ eqb h (n / 256) && eqb l (n % 256)
-digits h l n k = go (eqb h (n / 256)) refl (eqb l (n % 256)) refl
+-- the number's digits in base 256, the first octet least on both sides
+digits : (h l n : ℕ) → h < 256 → l < 256 → n < 65536 → eqb (h + l * 256) (n % 256 * 256 + n / 256) ≡ eqb h (n / 256) && eqb l (n % 256)
+digits h l n g k few = go (eqb h (n / 256)) refl (eqb l (n % 256)) refl
   where
-    go : (a : Bool) → eqb h (n / 256) ≡ a → (b : Bool) → eqb l (n % 256) ≡ b → eqb (h * 256 + l) n ≡ a && b
-    go true e true f = let x = eqb-true h (n / 256) e in let y = eqb-true l (n % 256) f in eq-eqb (h * 256 + l) n (omega arith)
-    go true e false f = let x = eqb-true h (n / 256) e in let y = eqb-false l (n % 256) f in ne-eqb (h * 256 + l) n (λ z. y (omega arith))
-    go false e b f = let x = eqb-false h (n / 256) e in ne-eqb (h * 256 + l) n (λ z. x (omega arith))
+    go : (a : Bool) → eqb h (n / 256) ≡ a → (b : Bool) → eqb l (n % 256) ≡ b → eqb (h + l * 256) (n % 256 * 256 + n / 256) ≡ a && b
+    go true e true f = let x = eqb-true h (n / 256) e in let y = eqb-true l (n % 256) f in eq-eqb (h + l * 256) (n % 256 * 256 + n / 256) (omega arith)
+    go true e false f = let x = eqb-true h (n / 256) e in let y = eqb-false l (n % 256) f in ne-eqb (h + l * 256) (n % 256 * 256 + n / 256) (λ z. y (omega arith))
+    go false e b f = let x = eqb-false h (n / 256) e in ne-eqb (h + l * 256) (n % 256 * 256 + n / 256) (λ z. x (omega arith))
 
-pub pair-is : (h l : ℕ) (z : ℤ) (n : ℕ) → n ≡ signMagnitude z → l < 256 → eqb (h * 256 + l) n ≡ pairRight h l z
+pub pair-is : (h l : ℕ) (z : ℤ) (n : ℕ) → n ≡ signMagnitude z → n < 65536 → h < 256 → l < 256 → eqb (h + l * 256) (n % 256 * 256 + n / 256) ≡ pairRight h l z
 unfolding pairRight
-pair-is h l z n e k = ap (eqb (h * 256 + l)) e ∙ digits h l (signMagnitude z) k
+pair-is h l z n e few g k = digits h l n g k few ∙ ap (λ (m : ℕ). eqb h (m / 256) && eqb l (m % 256)) e
 
 -- ---- lists of octets
 pub octets-length : (zs : List ℤ) → length (octetsOf zs) ≡ 2 * length zs
@@ -61,14 +63,14 @@ unlike-length xs zs n = go (same xs (octetsOf zs)) refl
     go true e = absurd (n (ap length (same-eq xs (octetsOf zs) e) ∙ octets-length zs))
     go false e = refl
 
+and-assoc : (a b c : Bool) → a && (b && c) ≡ (a && b) && c
+and-assoc true b c = refl
+and-assoc false b c = refl
+
 -- a pair and the rest
 pair-rest : (xs : List ℕ) (zs : List ℤ) (h l : ℕ) (z : ℤ) → same (h ∷ l ∷ xs) (octetsOf (z ∷ zs)) ≡ pairRight h l z && same xs (octetsOf zs)
 unfolding same octetsOf pairRight
-pair-rest xs zs h l z = assoc (eqb h (signMagnitude z / 256)) (eqb l (signMagnitude z % 256)) (same xs (octetsOf zs))
-  where
-    assoc : (a b c : Bool) → a && (b && c) ≡ (a && b) && c
-    assoc true b c = refl
-    assoc false b c = refl
+pair-rest xs zs h l z = and-assoc (eqb h (signMagnitude z / 256)) (eqb l (signMagnitude z % 256)) (same xs (octetsOf zs))
 
 next-pair : (xs : List ℕ) (zs : List ℤ) (i : ℕ) → i < length zs → length xs ≡ 2 * length zs
     → same (drop (2 * i) xs) (octetsOf (drop i zs))
@@ -84,20 +86,38 @@ next-pair xs zs i h e =
     twice : (i : ℕ) → suc (suc (2 * i)) ≡ 2 * (i + 1)
     twice i = omega arith
 
--- a wrong pair makes the whole wrong, and a right one leaves it to the rest
-pub wrong-pair : (xs : List ℕ) (zs : List ℤ) (i : ℕ) → i < length zs → length xs ≡ 2 * length zs
-    → pairRight (getD xs (2 * i) 0) (getD xs (2 * i + 1) 0) (getD zs i (pos 0)) ≡ false → same (drop (2 * i) xs) (octetsOf (drop i zs)) ≡ false
-wrong-pair xs zs i h e k = next-pair xs zs i h e ∙ ap (λ (b : Bool). b && same (drop (2 * (i + 1)) xs) (octetsOf (drop (i + 1) zs))) k
-
-pub right-pair : (xs : List ℕ) (zs : List ℤ) (i : ℕ) → i < length zs → length xs ≡ 2 * length zs
-    → pairRight (getD xs (2 * i) 0) (getD xs (2 * i + 1) 0) (getD zs i (pos 0)) ≡ true
-    → same (drop (2 * i) xs) (octetsOf (drop i zs)) ≡ same (drop (2 * (i + 1)) xs) (octetsOf (drop (i + 1) zs))
-right-pair xs zs i h e k = next-pair xs zs i h e ∙ ap (λ (b : Bool). b && same (drop (2 * (i + 1)) xs) (octetsOf (drop (i + 1) zs))) k
+-- with the pairs passed all right or not, the whole is what one more pair and the rest make it
+pub with-pair : (xs : List ℕ) (zs : List ℤ) (i : ℕ) (so-far pair : Bool) → i < length zs → length xs ≡ 2 * length zs
+    → pair ≡ pairRight (getD xs (2 * i) 0) (getD xs (2 * i + 1) 0) (getD zs i (pos 0))
+    → so-far && same (drop (2 * i) xs) (octetsOf (drop i zs)) ≡ (so-far && pair) && same (drop (2 * (i + 1)) xs) (octetsOf (drop (i + 1) zs))
+with-pair xs zs i so-far pair h e f =
+    ap (λ (b : Bool). so-far && b) (next-pair xs zs i h e ∙ ap (λ (b : Bool). b && same (drop (2 * (i + 1)) xs) (octetsOf (drop (i + 1) zs))) (sym f))
+    ∙ and-assoc so-far pair (same (drop (2 * (i + 1)) xs) (octetsOf (drop (i + 1) zs)))
 
 pub no-pair : (xs : List ℕ) (zs : List ℤ) (i : ℕ) → length zs ≤ i → length xs ≡ 2 * length zs → same (drop (2 * i) xs) (octetsOf (drop i zs)) ≡ true
 unfolding same octetsOf
 no-pair xs zs i h e =
     ap (λ ys. same ys (octetsOf (drop i zs))) (drop-of-length-le xs {i = 2 * i} (omega arith)) ∙ ap (λ ws. same [] (octetsOf ws)) (drop-of-length-le zs h)
+
+-- ---- every published value has a form in 16 bits: computed over each table
+abbrev writableAll : List ℤ → Bool
+writableAll [] = true
+writableAll (z ∷ zs) = cond (ltb (signMagnitude z) 65536) (writableAll zs) false
+
+writable : (zs : List ℤ) → writableAll zs ≡ true → Writable zs
+unfolding signMagnitude
+writable [] e k = omega arith
+writable (z ∷ zs) e k = go (ltb (signMagnitude z) 65536) refl e (writable zs) k
+  where
+    go : (b : Bool) → ltb (signMagnitude z) 65536 ≡ b → cond b (writableAll zs) false ≡ true → (writableAll zs ≡ true → Writable zs) → Writable (z ∷ zs)
+    go true h f rest zero = ltb-true (signMagnitude z) 65536 h
+    go true h f rest (suc j) = rest f j
+    go false h f rest j = absurd (never f)
+
+pub tables-writable : (p : Product) → Writable (tableOf p)
+unfolding tableOf signMagnitude
+tables-writable Reflectivity = writable (tableOf Reflectivity) refl
+tables-writable Velocity = writable (tableOf Velocity) refl
 
 -- ---- what the test means
 -- THE MEANING: the table is right exactly when the octets are the table's, octet for octet

@@ -12,7 +12,7 @@ ghost use Rattle.runs.specs.Lent.{placed, between};
 ghost use Rattle.values.specs.Published.{levelCount, published, tableOf};
 ghost use Rattle.values.specs.Reading.{readingOf, markOf, numberOf, numberedTo, kindOf, KindsBy};
 ghost use Rattle.values.specs.Ray.{marksOf, valuesOf, Bins};
-ghost use Rattle.values.specs.Table.{signMagnitude, pairRight, octetsOf, same, tableRight};
+ghost use Rattle.values.specs.Table.{signMagnitude, pairRight, octetsOf, same, Writable, tableRight};
 
 mod tables;
 
@@ -239,28 +239,31 @@ pub fn readings_into(
     }
 }
 
-// A value in 16 bits, sign and magnitude. (-32768 has no such form: it gives 65536, which no two octets write.)
-fn sign_magnitude(value: i16) -> u32
+// A value in 16 bits, sign and magnitude. (-32768 has no such form.)
+fn sign_magnitude(value: i16) -> u16
+    requires { ⌜ signMagnitude value < 65536 ⌝ }
     ensures { λ r. ⌜ r ≡ signMagnitude value ⌝ }
 {
     let w = value as i32;
     if w < 0 {
-        return 32768 + ((0 - w) as u32);
+        return (32768 + ((0 - w) as u32)) as u16;
     }
-    w as u32
+    w as u16
 }
 
-// Whether two octets write a value.
+// Whether two octets write a value. Both sides are taken with the first octet least, as the machine reads two octets: a compiler then
+// compares eight pairs at once.
 fn pair_right(high: u8, low: u8, value: i16) -> bool
+    requires { ⌜ signMagnitude value < 65536 ⌝ }
     ensures { λ r. ⌜ r ≡ pairRight high low value ⌝ }
 {
-    let h = high as u32;
-    let l = low as u32;
-    h * 256 + l == sign_magnitude(value)
+    let due = sign_magnitude(value);
+    high as u16 + low as u16 * 256 == due % 256 * 256 + due / 256
 }
 
-// Whether octets are a table's, octet for octet.
+// Whether octets are a table's, octet for octet. All pairs are looked at, whatever the first come to.
 fn right_in(octets: &[u8], table: &[i16]) -> bool
+    requires { ⌜ Writable (now table) ⌝ }
     ensures { λ r. ⌜ r ≡ same (now (octets .entry)) (octetsOf (now (table .entry))) ⌝ }
 {
     let m = table.len();
@@ -270,14 +273,13 @@ fn right_in(octets: &[u8], table: &[i16]) -> bool
     if octets.len() % 2 != 0 {
         return false;
     }
+    let mut right = true;
     let mut i = 0;
     while i < m {
-        if !pair_right(octets[2 * i], octets[2 * i + 1], table[i]) {
-            return false;
-        }
+        right = right & pair_right(octets[2 * i], octets[2 * i + 1], table[i]);
         i += 1;
     }
-    true
+    right
 }
 
 // Whether octets are the product's published table, octet for octet.

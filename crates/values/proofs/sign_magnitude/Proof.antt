@@ -20,15 +20,19 @@ cast-result c = let b = below (c .before .args .value) (c .before .fits .value) 
 add-result : tie.Need-add-result
 add-result c = let b = below (c .before .args .value) (c .before .fits .value) (c .if1 .taken) in rw (b .1) (omega (arith, b .2))
 
+cast-result-2 : tie.Need-cast-result-2
+cast-result-2 c = let b = below (c .before .args .value) (c .before .fits .value) (c .if1 .taken) in rw (b .1) (record { fits = omega (arith, b .3, c .before .pre) })
+
 returns : tie.Need-returns
 returns c = let b = below (c .before .args .value) (c .before .fits .value) (c .if1 .taken) in ap (λ (z : ℤ). 32768 + natAbs z) (b .1) ∙ b .3
 
-cast-result-2 : tie.Need-cast-result-2
-cast-result-2 c = let b = above (c .before .args .value) (c .before .fits .value) (c .if1 .left) in (b .0, b .1)
+cast-result-3 : tie.Need-cast-result-3
+cast-result-3 c = let b = above (c .before .args .value) (c .before .fits .value) (c .if1 .left) in (b .0, record { fits = omega (arith, b .2, c .before .pre) })
 
 returns-2 : tie.Need-returns-2
 returns-2 c = above (c .before .args .value) (c .before .fits .value) (c .if1 .left) .2
 
 pub sign-magnitude-spec : {M : Type 1} → statement M
 sign-magnitude-spec =
-    tie.close (tie.spec cast-w sub-result cast-result add-result returns cast-result-2 returns-2)
+    tie.close
+    (tie.spec cast-w sub-result cast-result add-result cast-result-2 returns cast-result-3 returns-2)

@@ -1,6 +1,9 @@
 -- The constant lent for each product is that product's table.
 use mathlib.Core.Path.{_∙_, sym, ap}
+use Rattle.values.specs.Published.{tableOf}
 use Rattle.values.specs.Table.{tableRight}
+use Rattle.values.specs.declared.Product.the-variants.{Reflectivity, Velocity}
+use Rattle.values.proofs.Octets.{tables-writable}
 use borrow.Author.Needs.{needs}
 use Rattle.values.proofs.table_right.Statement.{statement}
 use Rattle.values.proofs.table_right.Tie as tie
@@ -12,7 +15,8 @@ slice-aggregate-right-in : tie.Need-slice-aggregate-right-in
 slice-aggregate-right-in c = search needs
 
 right-in-requires : tie.Need-right-in-requires
-right-in-requires c κs = search needs
+unfolding tableOf
+right-in-requires c κs = tables-writable Reflectivity
 
 enum-told-2 : tie.Need-enum-told-2
 enum-told-2 c = search needs
@@ -21,7 +25,8 @@ slice-aggregate-right-in-2 : tie.Need-slice-aggregate-right-in-2
 slice-aggregate-right-in-2 c = search needs
 
 right-in-requires-2 : tie.Need-right-in-requires-2
-right-in-requires-2 c κs = search needs
+unfolding tableOf
+right-in-requires-2 c κs = tables-writable Velocity
 
 returns : tie.Need-returns
 unfolding tableRight
