@@ -3,7 +3,7 @@
 -- as run-length octets read back. The idea: on an accepted file each answer is that of the cut asked for, and the cut's bins are what its data decodes to.
 use Prim.Native.Nat.{ℕ, _*_, _^_, _≤_, _<_, min}
 use mathlib.Core.Path.{_≡_, refl, sym, _∙_, ap}
-use mathlib.Core.List.{List, []}
+use mathlib.Core.List.{List}
 use native.Mathlib.Omega.{arith}
 use borrow.Author.Tests.{lt-ltb, le-ltb}
 use lib.ListN.{length, getD, take}

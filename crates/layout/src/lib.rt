@@ -12,8 +12,7 @@ ghost use mathlib.Core.List.{[]};
 ghost use Prim.Native.Nat.{_+_, _^_, _≤_, _<_};
 ghost use lib.ListN.{length};
 ghost use lib.Dec.{leb};
-ghost use Rattle.rules.specs.Rules.{meetsAll, rules8};
-ghost use Rattle.rules.specs.Fields.{lengthAt, numberAt, pointsAt};
+ghost use Rattle.rules.specs.Fields.{lengthAt, pointsAt};
 ghost use Rattle.runs.specs.Run.{gives};
 ghost use Rattle.values.specs.Table.{tableRight};
 ghost use Rattle.layout.specs.Parts.{productOf, tableAt, dataAt, productIn};
@@ -374,9 +373,8 @@ fn is_closed(s: &[u8], st: State) -> bool
     (st.previous == 7) & rules::fields8(s, at)
 }
 
-// All the checks at the cursor, in order: 3, 9, then the section's own. No cut begins with a section 7, so 9 is not asked there. It is judged by a
-// call of its own, beside the one in `judge`, for speed: what is called from two places stays a function by itself, and the scan's loop, where
-// nearly all the time goes, has the registers to itself.
+// All the checks at the cursor, in order: 3, 9, then the section's own. No cut begins with a section 7, so 9 is not asked there and it goes straight
+// to its checks: the compiler then makes a better loop of the scan, where nearly all the time goes.
 fn judge_here(s: &[u8], end: usize, st: State) -> Judged
     requires { ⌜ Sound (now s) end st ⌝ }
     ensures { λ r. ⌜ r ≡ firstFault (checksAt (now (s .entry)) end (contextIn st) (st .at)) ⌝ }

@@ -9,6 +9,8 @@ use lib.Seq.{drop-drop, drop-at, getD-append-add, getD-drop}
 use lib.Dec.{leb, eqb}
 use borrow.Author.Tests.{le-leb, leb-true, eqb-true}
 use Rattle.runs.specs.Run.{digitSum, digitCount, levels, opens, gives, runLen, runNext, stepAt}
+use Rattle.runs.specs.Spot.{Holds}
+use Rattle.runs.specs.declared.Spot.{Spot}
 use Rattle.runs.specs.declared.Scan.the-variants.{Exact, Off}
 use Rattle.runs.specs.declared.Step.the-variants.{Run, Above, Over, End}
 use Rattle.runs.proofs.Bins.{either, drop-at as drop-here, levels-nil, levels-open, levels-digit}
@@ -138,31 +140,43 @@ module _ (v cap : ℕ) (s : List ℕ) (at level len next : ℕ) (e : Run level l
       (λ low. found inside low)
       (λ high. absurd (not-above level len next (e ∙ sym (stepAt-above v cap s at inside high)))))
 
--- ---- within the row of all levels L, after its first `bins`
-module _ (v : ℕ) (s : List ℕ) (at bins : ℕ) (L : List ℕ) (more : bins < length L) (rest : drop bins L ≡ levels v (drop at s)) (opened : opens v (drop at s) ≡ true) where
+-- ---- where reading stands: `bins` of the levels were read, and those of the octets from `at` on come after them
+pub record Stands (v : ℕ) (s : List ℕ) (at bins : ℕ) : Type 0 where
+  pub within : bins ≤ length (levels v s)
+  pub rest : drop bins (levels v s) ≡ levels v (drop at s)
+  pub opened : opens v (drop at s) ≡ true
+
+pub stands-first : (v : ℕ) (s : List ℕ) → opens v s ≡ true → Stands v s 0 0
+stands-first v s o = record { within = omega arith; rest = refl; opened = o }
+
+pub stands-spot : (v : ℕ) (s : List ℕ) (a : ℕ) (spot : Spot) → a < length (levels v s) → Holds v s a spot → Stands v s (spot .at) (spot .bins)
+stands-spot v s a spot inside h = record { within = omega (arith, h .before); rest = h .rest; opened = h .opened }
+
+-- the run there, as long as there are levels to come
+module _ (v : ℕ) (s : List ℕ) (at bins : ℕ) (k : Stands v s at bins) (more : bins < length (levels v s)) where
+  abbrev L : List ℕ
+  L = levels v s
+
   some-left : 0 < length (levels v (drop at s))
-  some-left = omega (arith, simp length-drop at (ap length rest))
+  some-left = omega (arith, simp length-drop at (ap length (k .rest)))
 
   pub here-inside : at < length s
-  here-inside = level-inside v s at opened some-left
+  here-inside = level-inside v s at (k .opened) some-left
 
   pub here-low : getD s at 0 ≤ v
-  here-low = level-low v s at opened some-left
+  here-low = level-low v s at (k .opened) some-left
 
   pub here-fits : bins + runLen v s at ≤ length L
-  here-fits = omega (arith, run-fits v s at here-inside here-low, simp length-drop at (ap length rest))
+  here-fits = omega (arith, run-fits v s at here-inside here-low, simp length-drop at (ap length (k .rest)))
 
-  pub here-rest : drop (bins + runLen v s at) L ≡ levels v (drop (runNext v s at) s)
+  here-rest : drop (bins + runLen v s at) L ≡ levels v (drop (runNext v s at) s)
   here-rest =
       sym (drop-drop (runLen v s at) bins L)
-      ∙ ap (λ (l : List ℕ). drop (runLen v s at) l) (rest ∙ run-levels v s at here-inside here-low)
+      ∙ ap (λ (l : List ℕ). drop (runLen v s at) l) (k .rest ∙ run-levels v s at here-inside here-low)
       ∙ drop-at (replicate (runLen v s at) (getD s at 0)) (levels v (drop (runNext v s at) s)) (runLen v s at) (length-replicate (runLen v s at) (getD s at 0))
 
   pub here-run : drop bins L ≡ replicate (runLen v s at) (getD s at 0) ++ drop (bins + runLen v s at) L
-  here-run = rest ∙ run-levels v s at here-inside here-low ∙ ap (λ (l : List ℕ). replicate (runLen v s at) (getD s at 0) ++ l) (sym here-rest)
-
-  pub here-opened : opens v (drop (runNext v s at) s) ≡ true
-  here-opened = run-opens v s at here-inside here-low
+  here-run = k .rest ∙ run-levels v s at here-inside here-low ∙ ap (λ (l : List ℕ). replicate (runLen v s at) (getD s at 0) ++ l) (sym here-rest)
 
   -- each of its bins has its level
   pub here-level : (a : ℕ) → bins ≤ a → a < bins + runLen v s at → getD L a 0 ≡ getD s at 0
@@ -180,14 +194,15 @@ module _ (v : ℕ) (s : List ℕ) (at bins : ℕ) (L : List ℕ) (more : bins < 
   pub here-known : length L ≤ 2097152 → (at < length s) × (runLen v s at ≤ 2097152)
   here-known few = (here-inside, omega (arith, here-fits))
 
-  -- past the run that it answers, all is as before it
-  pub here-next : (len next : ℕ) → len ≡ runLen v s at → next ≡ runNext v s at
-      → (0 < len) × (bins + len ≤ length L) × (drop (bins + len) L ≡ levels v (drop next s)) × (opens v (drop next s) ≡ true)
+  -- past the run that it answers, reading stands again
+  pub here-next : (len next : ℕ) → len ≡ runLen v s at → next ≡ runNext v s at → (0 < len) × Stands v s next (bins + len)
   here-next len next e f = (
     omega arith,
-    omega (arith, here-fits),
-    ap (λ (n : ℕ). drop (bins + n) L) e ∙ here-rest ∙ ap (λ (n : ℕ). levels v (drop n s)) (sym f),
-    ap (λ (n : ℕ). opens v (drop n s)) f ∙ here-opened,
+    record {
+      within = omega (arith, here-fits);
+      rest = ap (λ (n : ℕ). drop (bins + n) L) e ∙ here-rest ∙ ap (λ (n : ℕ). levels v (drop n s)) (sym f);
+      opened = ap (λ (n : ℕ). opens v (drop n s)) f ∙ run-opens v s at here-inside here-low;
+    },
   )
 
 -- ---- what a scan tells

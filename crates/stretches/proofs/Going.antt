@@ -8,12 +8,12 @@ use native.Mathlib.Nat.{add-zero, zero-mul, suc-mul, mod-eq-of-lt, div-eq-of-lt,
 use native.Mathlib.Numerals.{add-one}
 use native.Mathlib.Decide.{decLt}
 use native.Mathlib.Omega.{arith}
-use lib.ListN.{length, getD, take, drop, replicate, length-replicate, getD-replicate, List·getD-append}
-use lib.Seq.{sets, length-sets, getD-drop, take-nil, drop-nil}
+use lib.ListN.{length, getD, take, drop}
+use lib.Seq.{sets, length-sets, take-nil, drop-nil}
 use lib.Dec.{leb, ltb}
 use borrow.Author.Tests.{ltb-true}
 use Rattle.runs.specs.Run.{levels, opens, runLen, runNext}
-use Rattle.runs.proofs.Here.{here-inside, here-fits, here-run, here-rest, here-opened}
+use Rattle.runs.proofs.Here.{Stands, stands-first, here-inside, here-fits, here-level, here-next}
 use Rattle.stretches.specs.Stretch.{Entry, Scale, perEntry, kindAt, starts, entryAt, listFrom, past, words, wordsOf, toList}
 use Rattle.stretches.specs.Call.{answer, listed, answerOf, outOf}
 use Rattle.stretches.specs.declared.Listing.{Listing}
@@ -108,8 +108,7 @@ module _ (sc : Scale) (v nb nr : ℕ) (xs : List ℕ) where
     pub first-lt : first < nb
     pub first-le : first ≤ bin
     pub here-le : ray * nb + bin ≤ nr * nb
-    pub fed : drop (ray * nb + bin) (levels v xs) ≡ levels v (drop at xs)
-    pub ready : opens v (drop at xs) ≡ true
+    pub stands : Stands v xs at (ray * nb + bin)
     pub same : (x : ℕ) → ray * nb + first ≤ x → x < ray * nb + bin → K x ≡ held
     pub new : S (ray * nb + first) ≡ true
 
@@ -121,8 +120,7 @@ module _ (sc : Scale) (v nb nr : ℕ) (xs : List ℕ) where
         first-lt = some;
         first-le = omega arith;
         here-le = omega (arith, z);
-        fed = ap (λ (p : ℕ). drop p (levels v xs)) z;
-        ready = o;
+        stands = subst (Stands v xs 0) (sym z) (stands-first v xs o);
         same = λ x a b. absurd (omega arith);
         new = subst (λ (p : ℕ). S p ≡ true) (sym z) (starts-zero K nb);
       }
@@ -157,19 +155,13 @@ module _ (sc : Scale) (v nb nr : ℕ) (xs : List ℕ) where
     more = omega (arith, full, mul-le-mul-right nb ray-lt, suc-mul ray nb)
 
     pub run-inside : at < length xs
-    run-inside = here-inside v xs at p (levels v xs) more (g .fed) (g .ready)
+    run-inside = here-inside v xs at p (g .stands) more
 
     pub run-fits : p + runLen v xs at ≤ nr * nb
-    run-fits = omega (arith, full, here-fits v xs at p (levels v xs) more (g .fed) (g .ready))
+    run-fits = omega (arith, full, here-fits v xs at p (g .stands) more)
 
     run-kind : (x : ℕ) → p ≤ x → x < p + runLen v xs at → K x ≡ kind
-    run-kind x l u =
-        let e : p + (x - p) ≡ x = omega arith in
-        let w : x - p < runLen v xs at = omega arith in
-        ap (sc .kind) (ap (λ (y : ℕ). getD (levels v xs) y 0) (sym e) ∙ sym (getD-drop p (levels v xs) (x - p) 0)
-        ∙ ap (λ (l : List ℕ). getD l (x - p) 0) (here-run v xs at p (levels v xs) more (g .fed) (g .ready))
-        ∙ List·getD-append (replicate (runLen v xs at) (getD xs at 0)) _ 0 (x - p) (omega (arith, length-replicate (runLen v xs at) (getD xs at 0)))
-        ∙ getD-replicate (runLen v xs at) (x - p) (getD xs at 0) 0 w)
+    run-kind x l u = ap (sc .kind) (here-level v xs at p (g .stands) more x l u)
 
     -- a run of another kind begins a stretch, and the stretch in hand ends
     starts-other : (kind ≡ held → ⊥) → S p ≡ true
@@ -197,8 +189,7 @@ module _ (sc : Scale) (v nb nr : ℕ) (xs : List ℕ) where
       first-lt = in-ray;
       first-le = omega arith;
       here-le = g .here-le;
-      fed = g .fed;
-      ready = g .ready;
+      stands = g .stands;
       same = λ x a b. absurd (omega arith);
       new = starts-other n;
     }
@@ -206,13 +197,12 @@ module _ (sc : Scale) (v nb nr : ℕ) (xs : List ℕ) where
     -- a run of the kind in hand is taken
     pub going-on : kind ≡ held → (len next : ℕ) → len ≡ runLen v xs at → next ≡ runNext v xs at → Going next ray (bin + len) first held
     going-on k len next l n =
-        let e : ray * nb + (bin + len) ≡ p + runLen v xs at = omega arith in
+        let e : p + len ≡ ray * nb + (bin + len) = omega arith in
         record {
           first-lt = g .first-lt;
           first-le = omega (arith, g .first-le);
           here-le = omega (arith, run-fits);
-          fed = ap (λ (x : ℕ). drop x (levels v xs)) e ∙ here-rest v xs at p (levels v xs) more (g .fed) (g .ready) ∙ ap (λ (x : ℕ). levels v (drop x xs)) (sym n);
-          ready = ap (λ (x : ℕ). opens v (drop x xs)) n ∙ here-opened v xs at p (levels v xs) more (g .fed) (g .ready);
+          stands = subst (Stands v xs next) e (here-next v xs at p (g .stands) more len next l n .1);
           same = λ x a b. go x a (omega arith) (decLt x p);
           new = g .new;
         }
@@ -248,8 +238,7 @@ module _ (sc : Scale) (v nb nr : ℕ) (xs : List ℕ) where
           first-lt = omega (arith, g .first-lt);
           first-le = omega arith;
           here-le = omega (arith, g .here-le);
-          fed = ap (λ (x : ℕ). drop x (levels v xs)) here ∙ g .fed;
-          ready = g .ready;
+          stands = subst (Stands v xs at) (sym here) (g .stands);
           same = λ x a b. g .same x (omega (arith, g .first-lt)) (omega arith);
           new = subst (λ (x : ℕ). S x ≡ true) start starts-ray;
         }

@@ -3,7 +3,6 @@ use mathlib.Core.Path.{_≡_, refl, _∙_, ap, sym}
 use mathlib.Core.List.{List, [], _∷_, _++_}
 use Prim.Native.Nat.{ℕ, zero, suc, _+_, _-_, _≤_, _<_}
 use native.Mathlib.Nat.{le-of-suc-le-suc, not-suc-le-zero}
-use native.Mathlib.Numerals.{add-one}
 use lib.ListN.{length, getD, take, drop, replicate, length-replicate}
 use native.Mathlib.Omega.{arith}
 use Rattle.runs.specs.Lent.{placed}
@@ -93,14 +92,6 @@ held-run f x (Number z) same P xs k h =
 pub values-run : (p : Product) (x : ℕ) (P : List ℕ) (xs : List ℤ) (k : ℕ) → length P + k ≤ length xs
     → placed (over (heldAt p) P xs) (length P) (replicate (numberedTo (readingOf p x) (length P) (length P + k) - length P) (numberOf (readingOf p x))) ≡ over (heldAt p) (P ++ replicate k x) xs
 values-run p x P xs k h = held-run (heldAt p) x (readingOf p x) (λ z. refl) P xs k h
-
-pub marks-length : (p : Product) (ls bs : List ℕ) → length (marksOf p ls bs) ≡ length bs
-unfolding marksOf
-marks-length p ls bs = over-length (markAt p) ls bs
-
-pub values-length : (p : Product) (ls : List ℕ) (xs : List ℤ) → length (valuesOf p ls xs) ≡ length xs
-unfolding valuesOf
-values-length p ls xs = over-length (heldAt p) ls xs
 
 -- what stands at each place afterwards
 pub over-at : {A : Type 0} (f : ℕ → A → A) (ls : List ℕ) (bs : List A) (d : A) (i : ℕ) → i < length ls → i < length bs

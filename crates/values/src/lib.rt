@@ -5,7 +5,7 @@
 // A constant table that a loop indexes is laid out anew at each use. So whatever loops over levels is lent the table as a slice,
 // and one function on the product above it lends it.
 ghost use mathlib.Core.Path.{_≡_};
-ghost use Prim.Native.Nat.{ℕ, _≤_, _<_, _-_};
+ghost use Prim.Native.Nat.{_≤_, _<_, _-_};
 ghost use lib.ListN.{length, replicate};
 ghost use Rattle.runs.specs.Run.{levels};
 ghost use Rattle.runs.specs.Lent.{placed, between};

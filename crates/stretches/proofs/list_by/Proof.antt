@@ -1,5 +1,5 @@
 -- Both loops keep where reading stands (`Going`), and what the call ends with from there on (`due`): each step is one law of Going.antt.
-use mathlib.Core.Path.{_≡_, refl, sym, _∙_}
+use mathlib.Core.Path.{_≡_, refl, _∙_}
 use mathlib.Core.Logic.{⊎-elim}
 use mathlib.Core.List.{List}
 use Prim.Native.Nat.{ℕ, _-_, _*_, _/_, _≤_, _<_}

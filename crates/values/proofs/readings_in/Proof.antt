@@ -1,19 +1,18 @@
 -- `readings_in` meets its contract: from the spot of bin a on, the runs read so far, up to b, have their marks and numbers.
 use Prim.Native.Nat.{ℕ, _+_, _-_, _≤_, _<_, min}
-use mathlib.Core.Path.{_≡_, refl, sym, ap, _∙_}
-use mathlib.Core.Bool.{true}
-use mathlib.Core.List.{List, _++_}
+use mathlib.Core.Path.{_≡_, sym, ap, _∙_}
+use mathlib.Core.List.{List}
 use native.Mathlib.Omega.{arith}
 use lib.ListN.{length, getD, take, drop, replicate}
 use borrow.Author.Needs.{needs}
-use Rattle.runs.specs.Run.{levels, opens, runLen}
+use Rattle.runs.specs.Run.{levels, runLen}
 use Rattle.runs.specs.Lent.{placed, between}
 use Rattle.runs.proofs.Lent.{between-more, length-between}
-use Rattle.runs.proofs.Here.{here-inside, here-low, here-run, here-known, here-next}
+use Rattle.runs.proofs.Here.{Stands, stands-spot, here-inside, here-low, here-run, here-known, here-next}
 use Rattle.values.specs.Published.{levelCount}
 use Rattle.values.specs.declared.Product.{Product}
 use Rattle.values.specs.Ray.{over, markAt, heldAt, marksOf, valuesOf}
-use Rattle.values.specs.Reading.{readingOf, markOf, numberOf, numberedTo}
+use Rattle.values.specs.Reading.{markOf, numberOf, numberedTo}
 use Rattle.values.proofs.Listed.{count-le}
 use Rattle.values.proofs.Over.{over-none, over-length, marks-run, values-run}
 use Rattle.values.proofs.readings_in.Statement.{statement}
@@ -21,7 +20,7 @@ use Rattle.values.proofs.readings_in.Tie as tie
 
 abbrev Inv-loop : tie.InvT-loop
 Inv-loop product table octets v a b marks₀ values₀ at₀ bins₀ marks values at bins =
-    (bins ≤ length (levels v octets)) × (drop bins (levels v octets) ≡ levels v (drop at octets)) × (opens v (drop at octets) ≡ true)
+    Stands v octets at bins
     × (marks ≡ over (markAt product) (between a (min bins b) (levels v octets)) marks₀) × (values ≡ over (heldAt product) (between a (min bins b) (levels v octets)) values₀)
 
 abbrev μ-loop : tie.MeasureT-loop
@@ -46,10 +45,10 @@ row c = levels (start c .args .v) (start c .args .octets .now)
 
 -- the buffers keep their lengths
 size-marks : (c : tie.At-loop Inv-loop μ-loop) → length (c .loop .marks) ≡ length (start c .args .marks .now)
-size-marks c = ap length (c .loop .inv .3) ∙ over-length _ _ _
+size-marks c = ap length (c .loop .inv .1) ∙ over-length _ _ _
 
 size-values : (c : tie.At-loop Inv-loop μ-loop) → length (c .loop .values) ≡ length (start c .args .values .now)
-size-values c = ap length (c .loop .inv .4) ∙ over-length _ _ _
+size-values c = ap length (c .loop .inv .2) ∙ over-length _ _ _
 
 -- within the row, a run stands at the place in hand
 more : (c : tie.At-loop Inv-loop μ-loop) → c .loop .bins < start c .args .b → c .loop .bins < length (row c)
@@ -57,12 +56,9 @@ more c h = omega (arith, h, start c .pre .1 .given)
 
 -- past that run
 past : (c : tie.After-known-run Inv-loop μ-loop) → let h = c .before .before .before .before in
-    let bins = h .loop .bins + c .known-run .result .len in
-    let left = drop (c .known-run .result .next) (start h .args .octets .now) in
-    (0 < c .known-run .result .len) × (bins ≤ length (row h)) × (drop bins (row h) ≡ levels (start h .args .v) left) × (opens (start h .args .v) left ≡ true)
+    (0 < c .known-run .result .len) × Stands (start h .args .v) (start h .args .octets .now) (c .known-run .result .next) (h .loop .bins + c .known-run .result .len)
 past c = let h = c .before .before .before .before in
-    let l = h .loop in
-    here-next (start h .args .v) (start h .args .octets .now) (l .at) (l .bins) (row h) (more h (c .before .before .before .loop-test .taken)) (l .inv .1) (l .inv .2) _ _ (c .known-run .ensures .0) (c .known-run .ensures .1)
+    here-next (start h .args .v) (start h .args .octets .now) (h .loop .at) (h .loop .bins) (h .loop .inv .0) (more h (c .before .before .before .loop-test .taken)) _ _ (c .known-run .ensures .0) (c .known-run .ensures .1)
 
 seek-requires : tie.Need-seek-requires Inv-loop μ-loop
 seek-requires c κs = let s = c .before .before in
@@ -75,29 +71,27 @@ loop-holds c = let s = c .before .before .before in
     let L = levels (s .args .v) (s .args .octets .now) in
     let none : min (c .seek .result .bins) (s .args .b) - s .args .a ≡ 0 = omega (arith, h .before) in
     let bare : between (s .args .a) (min (c .seek .result .bins) (s .args .b)) L ≡ take 0 (drop (s .args .a) L) = ap (λ (n : ℕ). take n (drop (s .args .a) L)) none in (
-      omega (arith, h .before, s .pre .1 .some, s .pre .1 .given),
-      h .rest,
-      h .opened,
+      stands-spot (s .args .v) (s .args .octets .now) (s .args .a) (c .seek .result) (omega (arith, s .pre .1 .some, s .pre .1 .given)) h,
       sym (ap (λ (l : List ℕ). over (markAt (s .args .product)) l (s .args .marks .now)) bare ∙ over-none (markAt (s .args .product)) (drop (s .args .a) L) (s .args .marks .now)),
       sym (ap (λ (l : List ℕ). over (heldAt (s .args .product)) l (s .args .values .now)) bare ∙ over-none (heldAt (s .args .product)) (drop (s .args .a) L) (s .args .values .now)),
     )
 
 shared-slice-read-reading-in : tie.Need-shared-slice-read-reading-in Inv-loop μ-loop
 shared-slice-read-reading-in c = let h = c .before .before in
-    here-inside (start h .args .v) (start h .args .octets .now) (h .loop .at) (h .loop .bins) (row h) (more h (c .before .loop-test .taken)) (h .loop .inv .1) (h .loop .inv .2)
+    here-inside (start h .args .v) (start h .args .octets .now) (h .loop .at) (h .loop .bins) (h .loop .inv .0) (more h (c .before .loop-test .taken))
 
 reading-in-requires : tie.Need-reading-in-requires Inv-loop μ-loop
 reading-in-requires c κs = let h = c .before .before in
-    (start h .pre .0, omega (arith, start h .pre .1 .low, here-low (start h .args .v) (start h .args .octets .now) (h .loop .at) (h .loop .bins) (row h) (more h (c .before .loop-test .taken)) (h .loop .inv .1) (h .loop .inv .2)))
+    (start h .pre .0, omega (arith, start h .pre .1 .low, here-low (start h .args .v) (start h .args .octets .now) (h .loop .at) (h .loop .bins) (h .loop .inv .0) (more h (c .before .loop-test .taken))))
 
 known-run-requires : tie.Need-known-run-requires Inv-loop μ-loop
 known-run-requires c κs = let h = c .before .before .before in
     let p = start h .pre .1 in
-    let k = here-known (start h .args .v) (start h .args .octets .now) (h .loop .at) (h .loop .bins) (row h) (more h (c .before .before .loop-test .taken)) (h .loop .inv .1) (h .loop .inv .2) (p .few) in
+    let k = here-known (start h .args .v) (start h .args .octets .now) (h .loop .at) (h .loop .bins) (h .loop .inv .0) (more h (c .before .before .loop-test .taken)) (p .few) in
     (base-low (start h .args .product) (start h .args .v) (p .low), k .0, k .1)
 
 add-end : tie.Need-add-end Inv-loop μ-loop
-add-end c = record { fits = omega (arith, past (c .before), start (c .before .before .before .before .before) .pre .1 .few) }
+add-end c = record { fits = omega (arith, past (c .before) .1 .within, start (c .before .before .before .before .before) .pre .1 .few) }
 
 above-requires : tie.Need-above-requires Inv-loop μ-loop
 above-requires c κs = search needs
@@ -122,7 +116,7 @@ put-reading-requires c κs =
     )
 
 loop-less : tie.Need-loop-less Inv-loop μ-loop
-loop-less c = omega (arith, past (c .before .before .before .before .before .before .before .before .before .before), c .before .before .before .before .before .before .before .before .before .before .before .before .before .loop-test .taken)
+loop-less c = omega (arith, past (c .before .before .before .before .before .before .before .before .before .before) .0, c .before .before .before .before .before .before .before .before .before .before .before .before .before .loop-test .taken)
 
 loop-again : tie.Need-loop-again Inv-loop μ-loop
 loop-again c =
@@ -137,7 +131,7 @@ loop-again c =
     let to = min (l .bins + r .result .len) (s .args .b) in
     let had = between (s .args .a) (l .bins) (row h) in
     let k = (to - s .args .a) - (l .bins - s .args .a) in
-    let size : length had ≡ l .bins - s .args .a = length-between (row h) (s .args .a) (l .bins) (l .inv .0) in
+    let size : length had ≡ l .bins - s .args .a = length-between (row h) (s .args .a) (l .bins) (l .inv .0 .within) in
     let under : min (l .bins) (s .args .b) ≡ l .bins = omega (arith, test) in
     let lo : c .before .before .before .before .before .before .before .before .above .result ≡ length had = c .before .before .before .before .before .before .before .before .above .ensures ∙ sym size in
     let on : l .bins ≤ to = omega (arith, test) in
@@ -145,13 +139,11 @@ loop-again c =
     let hi : c .before .before .before .before .before .before .above2 .result ≡ length had + k = c .before .before .before .before .before .before .above2 .ensures ∙ ap (λ (n : ℕ). n - s .args .a) (c .before .before .before .before .before .before .before .lesser .ensures) ∙ sym whole in
     let many : c .before .before .before .before .before .before .above2 .result - c .before .before .before .before .before .before .before .before .above .result ≡ k = omega (arith, lo, hi) in
     let reading = c .before .before .before .before .before .before .before .before .before .before .before .reading-in .ensures in
-    let grown = between-more (row h) (drop (l .bins + len) (row h)) (s .args .marks .now) (s .args .a) (l .bins) to len x on (here-run (s .args .v) (s .args .octets .now) (l .at) (l .bins) (row h) (more h test) (l .inv .1) (l .inv .2)) (omega (arith, r .ensures .0)) in
+    let grown = between-more (row h) (drop (l .bins + len) (row h)) (s .args .marks .now) (s .args .a) (l .bins) to len x on (here-run (s .args .v) (s .args .octets .now) (l .at) (l .bins) (l .inv .0) (more h test)) (omega (arith, r .ensures .0)) in
     let room : length had + k ≤ s .args .b - s .args .a = within (s .args .a) to (s .args .b) (length had + k) whole (omega arith) in
-    let marks = l .inv .3 ∙ ap (λ (n : ℕ). over (markAt (s .args .product)) (between (s .args .a) n (row h)) (s .args .marks .now)) under in
-    let values = l .inv .4 ∙ ap (λ (n : ℕ). over (heldAt (s .args .product)) (between (s .args .a) n (row h)) (s .args .values .now)) under in (
+    let marks = l .inv .1 ∙ ap (λ (n : ℕ). over (markAt (s .args .product)) (between (s .args .a) n (row h)) (s .args .marks .now)) under in
+    let values = l .inv .2 ∙ ap (λ (n : ℕ). over (heldAt (s .args .product)) (between (s .args .a) n (row h)) (s .args .values .now)) under in (
       p .1,
-      p .2,
-      p .3,
       c .before .before .before .put-reading .ensures .0
           ∙ (λ i. placed (marks i) (lo i) (replicate (many i) (markOf (reading i))))
           ∙ marks-run (s .args .product) x had (s .args .marks .now) k (omega (arith, room, s .pre .1 .room-marks))
@@ -173,8 +165,8 @@ unfolding marksOf valuesOf
 returns c = let h = c .before in
     let s = start h in
     let all : min (h .loop .bins) (s .args .b) ≡ s .args .b = omega (arith, c .loop-test .left) in (
-      h .loop .inv .3 ∙ ap (λ (n : ℕ). over (markAt (s .args .product)) (between (s .args .a) n (row h)) (s .args .marks .now)) all,
-      h .loop .inv .4 ∙ ap (λ (n : ℕ). over (heldAt (s .args .product)) (between (s .args .a) n (row h)) (s .args .values .now)) all,
+      h .loop .inv .1 ∙ ap (λ (n : ℕ). over (markAt (s .args .product)) (between (s .args .a) n (row h)) (s .args .marks .now)) all,
+      h .loop .inv .2 ∙ ap (λ (n : ℕ). over (heldAt (s .args .product)) (between (s .args .a) n (row h)) (s .args .values .now)) all,
     )
 
 pub readings-in-spec : {M : Type 1} → statement M

@@ -1,12 +1,11 @@
 -- With the pairs passed all right or not, the whole is right exactly when they are and what is left is.
-use mathlib.Core.Bool.{Bool, true, false, _&&_, and-true}
+use mathlib.Core.Bool.{Bool, _&&_, and-true}
 use lib.IntN.{ℤ, pos}
 use mir.Syntax.{w16}
 use mir.Facts.{toZ-ofZ}
 use mathlib.Core.Path.{_≡_, refl, _∙_, sym, ap, subst}
 use Prim.Native.Nat.{_+_, _*_, _-_, _≤_, _<_}
 use native.Mathlib.Omega.{arith}
-use borrow.Author.Needs.{needs}
 use lib.ListN.{length, getD, drop}
 use Rattle.values.specs.Table.{signMagnitude, pairRight, octetsOf, same}
 use Rattle.values.proofs.Octets.{unlike-length, with-pair, no-pair}
