@@ -11,7 +11,7 @@ use Rattle.runs.specs.Run.{opens, levels}
 use Rattle.runs.specs.Lent.{front, between}
 use Rattle.runs.proofs.Here.{gives-true, levels-le}
 use Rattle.values.specs.Published.{levelCount}
-use Rattle.values.specs.Ray.{Bins}
+use Rattle.values.specs.Row.{Bins}
 use Rattle.values.specs.declared.Product.{Product}
 use Rattle.values.proofs.Listed.{count-le}
 use Rattle.layout.specs.Parts.{dataAt, productIn, binsIn, raysIn, greatestIn, levelsIn, levelIn}

@@ -12,7 +12,8 @@ use lib.ListN.{length, getD, drop, drop-of-length-le}
 use lib.Seq.{drop-cons}
 use borrow.Author.Tests.{eq-eqb, ne-eqb, eqb-true, eqb-false, ltb-true}
 use Rattle.values.specs.Published.{tableOf}
-use Rattle.values.specs.Table.{signMagnitude, pairRight, octetsOf, same, Writable, tableOctets, tableRight}
+use Rattle.values.specs.Table.{signMagnitude, pairRight, octetsOf, same, tableOctets, tableRight}
+use Rattle.values.specs.Row.{Writable}
 use Rattle.values.specs.declared.Product.{Product}
 use Rattle.values.specs.declared.Product.the-variants.{Reflectivity, Velocity}
 

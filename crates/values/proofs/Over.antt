@@ -9,7 +9,8 @@ use Rattle.runs.specs.Lent.{placed}
 use Rattle.runs.proofs.Lent.{placed-none}
 use lib.IntN.{ℤ, pos}
 use Rattle.values.specs.Ray.{over, markAt, heldAt, marksOf, valuesOf}
-use Rattle.values.specs.Reading.{readingOf, markOf, heldOf, numberOf, numberedTo}
+use Rattle.values.specs.Reading.{readingOf, markOf, heldOf}
+use Rattle.values.specs.Row.{numberOf, numberedTo}
 use Rattle.values.specs.declared.Product.{Product}
 use Rattle.values.specs.declared.Reading.{Reading}
 use Rattle.values.specs.declared.Reading.the-variants.{Missing, Number}

@@ -1,12 +1,7 @@
 -- A ray's levels as marks and values in two lent buffers (document 01, "Calls", Ray values).
-use Prim.Native.Nat.{ℕ, _-_, _≤_, _<_}
-use mathlib.Core.Path.{_≡_}
-use mathlib.Core.Bool.{true}
+use Prim.Native.Nat.{ℕ}
 use mathlib.Core.List.{List, [], _∷_}
-use lib.ListN.{length}
 use lib.IntN.{ℤ}
-use Rattle.runs.specs.Run.{levels, opens}
-use Rattle.values.specs.Published.{levelCount}
 use Rattle.values.specs.Reading.{readingOf, markOf, heldOf}
 use Rattle.values.specs.declared.Product.{Product}
 
@@ -31,14 +26,3 @@ marksOf p ls bs = over (markAt p) ls bs
 unfoldable pub valuesOf : Product → List ℕ → List ℤ → List ℤ
 unfolding over
 valuesOf p ls xs = over (heldAt p) ls xs
-
--- what reading the bins a up to b of the octets' levels asks: octets that open a run and give no more than a cut's bins, levels of the product, and
--- room for the bins in both buffers
-pub record Bins (p : Product) (v a b : ℕ) (s : List ℕ) (marks values : ℕ) : Type 0 where
-  pub low : v ≤ levelCount p
-  pub opened : opens v s ≡ true
-  pub few : length (levels v s) ≤ 2097152
-  pub some : a < b
-  pub given : b ≤ length (levels v s)
-  pub room-marks : b - a ≤ marks
-  pub room-values : b - a ≤ values

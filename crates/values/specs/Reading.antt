@@ -5,7 +5,7 @@ use mathlib.Core.Bool.{cond}
 use mathlib.Core.List.{List}
 use lib.Dec.{eqb}
 use lib.ListN.{getD}
-use lib.IntN.{ℤ, pos}
+use lib.IntN.{ℤ}
 use lib.Signed.{ltZ}
 use Rattle.values.specs.Published.{published, levelCount}
 use Rattle.values.specs.declared.Product.{Product}
@@ -26,15 +26,6 @@ markOf (Number z) = 1
 unfoldable pub heldOf : Reading → ℤ → ℤ
 heldOf Missing x = x
 heldOf (Number z) x = z
-
--- the number that is stored, and where the places that get it end, of those from lo up to hi: for a missing reading there are none
-unfoldable pub numberOf : Reading → ℤ
-numberOf Missing = pos 0
-numberOf (Number z) = z
-
-unfoldable pub numberedTo : Reading → ℕ → ℕ → ℕ
-numberedTo Missing lo hi = lo
-numberedTo (Number z) lo hi = hi
 
 -- the kind: 0 missing, 1 value below T, 2 value at or above T (document 01, "Calls", Stretches)
 unfoldable pub kindOf : Reading → ℤ → ℕ

@@ -1,9 +1,8 @@
 -- Section 5's value table, octet for octet (document 01, "Sections" and "Numbers in a file").
-use Prim.Native.Nat.{ℕ, suc, _+_, _/_, _%_, _<_}
+use Prim.Native.Nat.{ℕ, suc, _+_, _/_, _%_}
 use mathlib.Core.Bool.{Bool, true, false, _&&_}
 use mathlib.Core.List.{List, [], _∷_}
 use lib.Dec.{eqb}
-use lib.ListN.{getD}
 use lib.IntN.{ℤ, pos, negsuc}
 use Rattle.values.specs.Published.{tableOf}
 use Rattle.values.specs.declared.Product.{Product}
@@ -12,10 +11,6 @@ use Rattle.values.specs.declared.Product.{Product}
 unfoldable pub signMagnitude : ℤ → ℕ
 signMagnitude (pos n) = n
 signMagnitude (negsuc k) = 32768 + suc k
-
--- each value has such a form
-abbrev pub Writable : List ℤ → Type 0
-Writable zs = (k : ℕ) → signMagnitude (getD zs k (pos 0)) < 65536
 
 -- two octets, most significant first, write a value
 unfoldable pub pairRight : ℕ → ℕ → ℤ → Bool

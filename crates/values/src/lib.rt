@@ -10,9 +10,10 @@ ghost use lib.ListN.{length, replicate};
 ghost use Rattle.runs.specs.Run.{levels};
 ghost use Rattle.runs.specs.Lent.{placed, between};
 ghost use Rattle.values.specs.Published.{levelCount, published, tableOf};
-ghost use Rattle.values.specs.Reading.{readingOf, markOf, numberOf, numberedTo, kindOf, KindsBy};
-ghost use Rattle.values.specs.Ray.{marksOf, valuesOf, Bins};
-ghost use Rattle.values.specs.Table.{signMagnitude, pairRight, octetsOf, same, Writable, tableRight};
+ghost use Rattle.values.specs.Reading.{readingOf, markOf, kindOf, KindsBy};
+ghost use Rattle.values.specs.Ray.{marksOf, valuesOf};
+ghost use Rattle.values.specs.Table.{signMagnitude, pairRight, octetsOf, same, tableRight};
+ghost use Rattle.values.specs.Row.{numberOf, numberedTo, Writable, Bins};
 
 mod tables;
 

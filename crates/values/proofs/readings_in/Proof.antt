@@ -12,7 +12,8 @@ use Rattle.runs.proofs.Here.{Stands, stands-spot, here-inside, here-low, here-r
 use Rattle.values.specs.Published.{levelCount}
 use Rattle.values.specs.declared.Product.{Product}
 use Rattle.values.specs.Ray.{over, markAt, heldAt, marksOf, valuesOf}
-use Rattle.values.specs.Reading.{markOf, numberOf, numberedTo}
+use Rattle.values.specs.Reading.{markOf}
+use Rattle.values.specs.Row.{numberOf, numberedTo}
 use Rattle.values.proofs.Listed.{count-le}
 use Rattle.values.proofs.Over.{over-none, over-length, marks-run, values-run}
 use Rattle.values.proofs.readings_in.Statement.{statement}

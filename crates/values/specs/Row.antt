@@ -1,0 +1,37 @@
+-- What the crate's own functions ask of each other and leave: no promise of a call cites these.
+use Prim.Native.Nat.{ℕ, _-_, _≤_, _<_}
+use mathlib.Core.Path.{_≡_}
+use mathlib.Core.Bool.{true}
+use mathlib.Core.List.{List}
+use lib.ListN.{length, getD}
+use lib.IntN.{ℤ, pos}
+use Rattle.runs.specs.Run.{levels, opens}
+use Rattle.values.specs.Published.{levelCount}
+use Rattle.values.specs.Table.{signMagnitude}
+use Rattle.values.specs.declared.Product.{Product}
+use Rattle.values.specs.declared.Reading.{Reading}
+use Rattle.values.specs.declared.Reading.the-variants.{Missing, Number}
+
+-- the number that is stored, and where the places that get it end, of those from lo up to hi: for a missing reading there are none
+unfoldable pub numberOf : Reading → ℤ
+numberOf Missing = pos 0
+numberOf (Number z) = z
+
+unfoldable pub numberedTo : Reading → ℕ → ℕ → ℕ
+numberedTo Missing lo hi = lo
+numberedTo (Number z) lo hi = hi
+
+-- each value has a form in 16 bits, sign and magnitude
+abbrev pub Writable : List ℤ → Type 0
+Writable zs = (k : ℕ) → signMagnitude (getD zs k (pos 0)) < 65536
+
+-- what reading the bins a up to b of the octets' levels asks: octets that open a run and give no more than a cut's bins, levels of the product, and
+-- room for the bins in both buffers
+pub record Bins (p : Product) (v a b : ℕ) (s : List ℕ) (marks values : ℕ) : Type 0 where
+  pub low : v ≤ levelCount p
+  pub opened : opens v s ≡ true
+  pub few : length (levels v s) ≤ 2097152
+  pub some : a < b
+  pub given : b ≤ length (levels v s)
+  pub room-marks : b - a ≤ marks
+  pub room-values : b - a ≤ values
