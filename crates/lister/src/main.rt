@@ -1,8 +1,9 @@
-// The lister: document 01, "The lister". One octet more than a file may have is read, so that a longer one is seen.
+// The lister: document 01, "The lister". One octet more than a file may have is read, so that a longer one is seen. The room for words and text is
+// small, since all of it is cleared first: a longer list is fetched in portions and written in pages.
 fn main() {
     let mut file = [0u8; 65537];
-    let mut words = [0u32; 131072];
-    let mut text = [0u8; 131072];
+    let mut words = [0u32; 32768];
+    let mut text = [0u8; 32768];
     let n = io::read_full(libc::STDIN_FILENO, &mut file);
     show::show(libc::STDOUT_FILENO, &file[..n], &mut words, &mut text);
 }

@@ -1,7 +1,7 @@
 // Lists each file that an argument names, under its name: what the lister writes of many files, in one run.
 use libc::STDOUT_FILENO;
 
-fn sample(i: usize, words: &mut [u32; 131072], text: &mut [u8; 131072]) {
+fn sample(i: usize, words: &mut [u32; 32768], text: &mut [u8; 32768]) {
     let mut path = io::buffer();
     let length = os::arg(i, &mut path);
     if os::errno() != 0 {
@@ -21,8 +21,8 @@ fn sample(i: usize, words: &mut [u32; 131072], text: &mut [u8; 131072]) {
 }
 
 fn main() {
-    let mut words = [0u32; 131072];
-    let mut text = [0u8; 131072];
+    let mut words = [0u32; 32768];
+    let mut text = [0u8; 32768];
     let mut i = 1;
     let count = os::arg_count();
     while i < count {
