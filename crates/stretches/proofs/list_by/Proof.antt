@@ -41,8 +41,8 @@ few : (s : Start) → s .args .nr * s .args .nb ≤ 2097152
 few s = mul-le-mul {n₁ = s .args .nr} {m₁ = s .args .nb} {n₂ = 1024} {m₂ = 2048} (s .pre .nr-le) (s .pre .nb-le)
 
 -- where reading stands, and what is due, for what was lent
-abbrev Stands : Start → ℕ → ℕ → ℕ → ℕ → ℕ → Type 0
-Stands s = Going (scaleBy (s .args .kinds .now)) (s .args .v) (s .args .nb) (s .args .nr) (s .args .octets .now)
+abbrev Goes : Start → ℕ → ℕ → ℕ → ℕ → ℕ → Type 0
+Goes s = Going (scaleBy (s .args .kinds .now)) (s .args .v) (s .args .nb) (s .args .nr) (s .args .octets .now)
 
 abbrev Due : Start → List ℕ → ℕ → ℕ → ℕ → Type 0
 Due s out count ray first =
@@ -63,12 +63,12 @@ abbrev start : (c : tie.After-kind Inv-loop2 μ-loop2 Inv-loop μ-loop) → Star
 start c = head c .before .before .before
 
 -- rays and bins are few
-small : (s : Start) {at ray bin first held : ℕ} → Stands s at ray bin first held → (s .args .nb ≤ 2048) × (ray ≤ 1024) × (first ≤ 2048)
+small : (s : Start) {at ray bin first held : ℕ} → Goes s at ray bin first held → (s .args .nb ≤ 2048) × (ray ≤ 1024) × (first ≤ 2048)
 small s g = (s .pre .nb-le, omega (arith, ray-le _ _ _ _ _ g, s .pre .nr-le), omega (arith, g .first-lt, s .pre .nb-le))
 
 -- where the kinds differ the stretch in hand ends, and after that the run is of the kind in hand
 turned : (c : tie.Joined1 Inv-loop2 μ-loop2 Inv-loop μ-loop)
-    → Stands (start (c .before)) (head (c .before) .loop .at) (head (c .before) .loop .ray) (head (c .before) .loop .bin) (c .if1 .first) (c .if1 .held)
+    → Goes (start (c .before)) (head (c .before) .loop .at) (head (c .before) .loop .ray) (head (c .before) .loop .bin) (c .if1 .first) (c .if1 .held)
     × (getD (start (c .before) .args .kinds .now) (getD (start (c .before) .args .octets .now) (head (c .before) .loop .at) 0) 0 ≡ c .if1 .held)
     × Due (start (c .before)) (c .if1 .out) (c .if1 .count) (head (c .before) .loop .ray) (c .if1 .first)
 turned c =
