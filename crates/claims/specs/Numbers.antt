@@ -3,7 +3,7 @@ use Prim.Native.Nat.{ℕ}
 use Rattle.runs.specs.Read.{readNumber}
 use Rattle.runs.specs.declared.RunRead.{RunRead}
 use Rattle.runs.specs.declared.RunRead.the-variants as R
-use Rattle.layout.specs.Refusal.{numberOf, placeOf}
+use Rattle.sections.specs.Refusal.{numberOf, placeOf}
 use Rattle.polar.specs.declared.Opened.{Opened}
 use Rattle.polar.specs.declared.Opened.the-variants as O
 

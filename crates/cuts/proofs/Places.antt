@@ -14,9 +14,10 @@ use Rattle.values.specs.Published.{levelCount}
 use Rattle.values.specs.Row.{Bins}
 use Rattle.values.specs.declared.Product.{Product}
 use Rattle.values.proofs.Listed.{count-le}
-use Rattle.layout.specs.Parts.{dataAt, productIn, binsIn, raysIn, greatestIn, levelsIn, levelIn}
+use Rattle.sections.specs.Parts.{binsIn, raysIn}
+use Rattle.layout.specs.Parts.{dataAt, productIn, greatestIn, levelsIn, levelIn}
 use Rattle.layout.specs.Good.{GoodCut}
-use Rattle.layout.specs.declared.Cut.{Cut}
+use Rattle.sections.specs.declared.Cut.{Cut}
 use Rattle.stretches.specs.Call.{Part, scaleOf, listed, rightPoint}
 use Rattle.cuts.specs.Bins.{binsFrom, rayIn, stretchesIn}
 

@@ -5,9 +5,10 @@ use mathlib.Core.List.{List}
 use native.Mathlib.Omega.{arith}
 use lib.ListN.{length, getD, drop, length-drop}
 use lib.Seq.{length-take-le, getD-take, getD-drop}
-use Rattle.layout.specs.Parts.{binsIn, raysIn, levelsIn, levelIn}
+use Rattle.sections.specs.Parts.{binsIn, raysIn}
+use Rattle.layout.specs.Parts.{levelsIn, levelIn}
 use Rattle.layout.specs.Good.{GoodCut}
-use Rattle.layout.specs.declared.Cut.{Cut}
+use Rattle.sections.specs.declared.Cut.{Cut}
 use Rattle.cuts.specs.Bins.{binsFrom, rayIn}
 use Rattle.cuts.proofs.Places.{all-bins, ray-inside}
 

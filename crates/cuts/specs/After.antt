@@ -4,7 +4,7 @@ use mathlib.Core.List.{List}
 use mathlib.Core.Bool.{cond}
 use lib.Dec.{eqb}
 use Rattle.rules.specs.Fields.{lengthAt, numberAt}
-use Rattle.layout.specs.declared.Cut.{Cut}
+use Rattle.sections.specs.declared.Cut.{Cut}
 
 -- the place past the section at a place
 abbrev pub endAt : List ℕ → ℕ → ℕ

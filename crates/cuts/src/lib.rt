@@ -1,7 +1,7 @@
 // One cut of an accepted file, read by the places of its sections: Nb, Nr, V, its data; a ray's levels, a bin's level, its stretches. Every function that
 // reads data asks that the cut is good (specs/Good.antt of `layout`), which the file's checks have shown, and tests nothing again. Below it stand
 // `layout`, `runs`, `values` and `stretches`; above it `polar`, whose calls make the checks, and `lister`, which goes over all cuts of a file.
-use layout::Cut;
+use sections::Cut;
 use stretches::Listing;
 ghost use mathlib.Core.Path.{_≡_};
 ghost use mathlib.Core.Bool.{true, cond};
@@ -10,7 +10,8 @@ ghost use lib.ListN.{length};
 ghost use Rattle.runs.specs.Lent.{front};
 ghost use Rattle.values.specs.Published.{levelCount};
 ghost use Rattle.values.specs.Ray.{marksOf, valuesOf};
-ghost use Rattle.layout.specs.Parts.{dataAt, productIn, binsIn, raysIn, greatestIn, levelIn};
+ghost use Rattle.sections.specs.Parts.{binsIn, raysIn};
+ghost use Rattle.layout.specs.Parts.{dataAt, productIn, greatestIn, levelIn};
 ghost use Rattle.layout.specs.Good.{GoodCut};
 ghost use Rattle.stretches.specs.Call.{answerOf, outOf, rightPoint};
 ghost use Rattle.cuts.specs.Bins.{binsFrom, rayIn, stretchesIn};
@@ -49,7 +50,7 @@ pub fn data_in(file: &[u8], c: Cut) -> &[u8]
 {
     let at = c.section7;
     let from = at + 5;
-    let to = layout::end_at(file, at);
+    let to = sections::end_at(file, at);
     &file[from..to]
 }
 
@@ -116,12 +117,12 @@ pub fn list_into(file: &[u8], c: Cut, t: i32, ray: usize, bin: usize, words: &mu
 pub fn next_cut(file: &[u8], c: Cut) -> Cut
     ensures { λ r. ⌜ r ≡ cutAfter (now (file .entry)) c ⌝ }
 {
-    let at = layout::end_at(file, c.section7);
+    let at = sections::end_at(file, c.section7);
     let own = rules::field8(file, at, 5) == 3;
     let section3 = pick(own, at, c.section3);
-    let section4 = pick(own, layout::end_at(file, at), at);
-    let section5 = layout::end_at(file, section4);
-    let section7 = layout::end_at(file, layout::end_at(file, section5));
+    let section4 = pick(own, sections::end_at(file, at), at);
+    let section5 = sections::end_at(file, section4);
+    let section7 = sections::end_at(file, sections::end_at(file, section5));
     Cut {
         section3,
         section4,

@@ -11,12 +11,13 @@ use borrow.Author.Tests.{ltb-true, ltb-false}
 use lib.Dec.{ltb}
 use lib.ListN.{length, getD}
 use lib.IntN.{ℤ}
-use Rattle.layout.specs.Parts.{binsIn, raysIn, productIn, levelIn}
-use Rattle.layout.specs.Verdict.{Verdict, accepted, refused, verdict, noCut}
+use Rattle.sections.specs.Parts.{binsIn, raysIn}
+use Rattle.layout.specs.Parts.{productIn, levelIn}
+use Rattle.sections.specs.Verdict.{Verdict, accepted, refused, noCut}
+use Rattle.layout.specs.Verdict.{verdict, RefusedBy}
 use Rattle.layout.specs.Accepted.{Accepted}
-use Rattle.layout.specs.Refused.{RefusedBy}
-use Rattle.layout.specs.declared.Cut.{Cut}
-use Rattle.layout.specs.declared.FileRefusal.{FileRefusal}
+use Rattle.sections.specs.declared.Cut.{Cut}
+use Rattle.sections.specs.declared.FileRefusal.{FileRefusal}
 use Rattle.layout.proofs.Exact.{accepted-only, refused-only, refused-all}
 use Rattle.values.specs.Reading.{readingOf}
 use Rattle.values.specs.declared.Reading.{Reading}

@@ -25,12 +25,14 @@ use Rattle.values.specs.Reading.{readingOf, markOf, heldOf}
 use Rattle.values.specs.Ray.{marksOf, valuesOf}
 use Rattle.values.proofs.Readings.{no-number, its-number, published-near}
 use Rattle.values.proofs.Over.{mark-at, value-at}
-use Rattle.layout.specs.Parts.{dataAt, productIn, binsIn, raysIn, greatestIn, levelsIn, levelIn}
-use Rattle.layout.specs.Verdict.{Verdict, accepted, refused, verdict, noCut}
+use Rattle.sections.specs.Parts.{binsIn, raysIn}
+use Rattle.layout.specs.Parts.{dataAt, productIn, greatestIn, levelsIn, levelIn}
+use Rattle.sections.specs.Verdict.{Verdict, accepted, refused, noCut}
+use Rattle.layout.specs.Verdict.{verdict}
 use Rattle.layout.specs.Accepted.{Accepted}
 use Rattle.layout.specs.Good.{GoodCut}
-use Rattle.layout.specs.declared.Cut.{Cut}
-use Rattle.layout.specs.declared.FileRefusal.{FileRefusal}
+use Rattle.sections.specs.declared.Cut.{Cut}
+use Rattle.sections.specs.declared.FileRefusal.{FileRefusal}
 use Rattle.layout.proofs.Exact.{accepted-only, accepted-all}
 use Rattle.layout.proofs.GoodCuts.{good-accepted}
 use Rattle.cuts.specs.Bins.{rayIn}

@@ -13,10 +13,11 @@ use lib.ListN.{length, getD, take, drop, length-drop, take-append-drop}
 use lib.Seq.{take-at}
 use lib.IntN.{ℤ}
 use Rattle.runs.specs.Lent.{front}
-use Rattle.layout.specs.Parts.{dataAt, productIn, binsIn, raysIn, greatestIn, levelsIn, levelIn}
-use Rattle.layout.specs.Verdict.{noCut}
+use Rattle.sections.specs.Parts.{binsIn, raysIn}
+use Rattle.layout.specs.Parts.{dataAt, productIn, greatestIn, levelsIn, levelIn}
+use Rattle.sections.specs.Verdict.{noCut}
 use Rattle.layout.specs.Accepted.{Accepted}
-use Rattle.layout.specs.declared.Cut.{Cut}
+use Rattle.sections.specs.declared.Cut.{Cut}
 use Rattle.layout.proofs.GoodCuts.{good-accepted}
 use Rattle.stretches.specs.Stretch.{Entry, perEntry, wordsOf}
 use Rattle.stretches.specs.Meaning.{IsStretch, IsList, Wanted}

@@ -2,11 +2,11 @@
 use Prim.Native.Nat.{ℕ, _≤_, _<_}
 use mathlib.Core.List.{List}
 use lib.ListN.{length, getD}
-use Rattle.layout.specs.Verdict.{noCut}
+use Rattle.sections.specs.Verdict.{noCut}
 use Rattle.layout.specs.Accepted.{Accepted}
-use Rattle.layout.specs.Refused.{RefusedBy}
-use Rattle.layout.specs.declared.Cut.{Cut}
-use Rattle.layout.specs.declared.FileRefusal.{FileRefusal}
+use Rattle.layout.specs.Verdict.{RefusedBy}
+use Rattle.sections.specs.declared.Cut.{Cut}
+use Rattle.sections.specs.declared.FileRefusal.{FileRefusal}
 use Rattle.polar.specs.declared.AskRefusal.{AskRefusal}
 use Rattle.polar.specs.declared.AskRefusal.the-variants as A
 use Rattle.polar.specs.declared.FillRefusal.{FillRefusal}

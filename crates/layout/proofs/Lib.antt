@@ -1,10 +1,3 @@
-pub mod Framed
-pub mod Order
-pub mod Faults
-pub mod Stepping
-pub mod Sections
-pub mod Along
 pub mod Own
-pub mod Grammar
 pub mod Exact
 pub mod GoodCuts

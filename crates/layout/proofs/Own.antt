@@ -1,82 +1,65 @@
--- Each kind of section: its own checks all hold exactly where the section is as `Accepted` has it. Both ways, for any context.
-use Prim.Native.Nat.{ℕ, _+_}
-use mathlib.Core.Path.{_≡_, refl}
+-- The checks of this format's own sections all hold exactly where the sections are as `Accepted` has them. Both ways, for any context.
+use Prim.Native.Nat.{ℕ, _≤_}
+use mathlib.Core.Path.{refl}
 use mathlib.Core.List.{List}
 use native.Mathlib.Omega.{arith}
 use borrow.Author.Tests.{eqb-true, eq-eqb, leb-true, le-leb}
-use Rattle.rules.specs.Fields.{lengthAt, numberAt, pointsAt, parameterAt, greatestAt}
-use Rattle.rules.proofs.Bounds.{greatest-bound}
+use lib.Dec.{eqb}
+use Rattle.rules.specs.Rules.{scanRules, rules3}
+use Rattle.rules.specs.Fields.{pointsAt, parameterAt, greatestAt}
+use Rattle.rules.proofs.Bounds.{points-bound, greatest-bound}
 use Rattle.runs.proofs.Meaning.{gives-exactly, exactly-gives}
 use Rattle.values.specs.Published.{levelCount}
 use Rattle.values.proofs.Listed.{count-le}
 use Rattle.values.proofs.Octets.{table-right, right-table}
+use Rattle.sections.specs.Checks.{Context}
+use Rattle.sections.specs.Refused.{AllHold}
+use Rattle.sections.proofs.Own.{Says}
+use Rattle.sections.proofs.Inside.{either, OwnAt}
 use Rattle.layout.specs.Parts.{productOf, tableAt, dataAt}
-use Rattle.layout.specs.Checks.{Context, ownChecks}
-use Rattle.layout.specs.Accepted.{Section, Section1, Section3, Section4, Section5, Section6, Section7}
-use Rattle.layout.specs.Refused.{AllHold}
-use Rattle.layout.proofs.Framed.{Framed}
+use Rattle.layout.specs.Checks.{ownChecks}
+use Rattle.layout.specs.Accepted.{Section3, Section4, Section5, Section7, kinds}
 
-module _ (s : List ℕ) (end : ℕ) (x : Context) (at : ℕ) where
-  -- a framed section of number n
-  pub section-of : (n : ℕ) → numberAt s at ≡ n → Framed s end x at → Section s end n at (at + lengthAt s at)
-  section-of n e f = record { number = e; some = f .long; up-to = refl; inside = f .reach }
-
-  pub section1-of : numberAt s at ≡ 1 → Framed s end x at → AllHold (ownChecks s x at 1) → Section1 s end at (at + lengthAt s at)
+module _ (s : List ℕ) (x : Context) (at : ℕ) where
+  three : AllHold (ownChecks s x at 3) → Section3 s at
   unfolding ownChecks
-  section1-of e f h = record { here = section-of 1 e f; long = eqb-true _ _ (h .0); rules = h .1 .0 }
+  three h = record { long = eqb-true _ _ (h .0); rules = h .1 .0; points = eqb-true _ _ (h .1 .1 .0) }
 
-  pub section3-of : numberAt s at ≡ 3 → Framed s end x at → AllHold (ownChecks s x at 3) → Section3 s end at (at + lengthAt s at)
+  four : AllHold (ownChecks s x at 4) → Section4 s (x .first) (x .section3) at
   unfolding ownChecks
-  section3-of e f h = record { here = section-of 3 e f; long = eqb-true _ _ (h .0); rules = h .1 .0; points = eqb-true _ _ (h .1 .1 .0) }
+  four h = record { long = eqb-true _ _ (h .0); rules = h .1 .0 }
 
-  pub section4-of : numberAt s at ≡ 4 → Framed s end x at → AllHold (ownChecks s x at 4)
-      → Section4 s end (x .first) (x .section3) at (at + lengthAt s at)
+  five : AllHold (ownChecks s x at 5) → Section5 s (x .section3) (x .section4) at
   unfolding ownChecks
-  section4-of e f h = record { here = section-of 4 e f; long = eqb-true _ _ (h .0); rules = h .1 .0 }
-
-  pub section5-of : numberAt s at ≡ 5 → Framed s end x at → AllHold (ownChecks s x at 5)
-      → Section5 s end (x .section3) (x .section4) at (at + lengthAt s at)
-  unfolding ownChecks
-  section5-of e f h =
+  five h =
       record {
-        here = section-of 5 e f;
         long = eqb-true _ _ (h .0);
         rules = h .1 .0;
         points = eqb-true _ _ (h .1 .1 .0);
         table = table-right (tableAt s at) (productOf (parameterAt s (x .section4))) (h .1 .1 .1 .0);
       }
 
-  pub section6-of : numberAt s at ≡ 6 → Framed s end x at → AllHold (ownChecks s x at 6) → Section6 s end at (at + lengthAt s at)
+  seven : AllHold (ownChecks s x at 7) → Section7 s (x .section3) (x .section5) at
   unfolding ownChecks
-  section6-of e f h = record { here = section-of 6 e f; long = eqb-true _ _ (h .0); rules = h .1 .0 }
-
-  pub section7-of : numberAt s at ≡ 7 → Framed s end x at → AllHold (ownChecks s x at 7)
-      → Section7 s end (x .section3) (x .section5) at (at + lengthAt s at)
-  unfolding ownChecks
-  section7-of e f h =
+  seven h =
       record {
-        here = section-of 7 e f;
         long = leb-true _ _ (h .0);
         bins = gives-exactly (greatestAt s (x .section5)) (pointsAt s (x .section3)) (dataAt s at) (h .1 .1 .0);
       }
 
   -- ── and back ──
 
-  pub own1 : {next : ℕ} → Section1 s end at next → AllHold (ownChecks s x at 1)
+  of-three : Section3 s at → AllHold (ownChecks s x at 3)
   unfolding ownChecks
-  own1 k = (eq-eqb _ _ (k .long), (k .rules, tt))
+  of-three k = (eq-eqb _ _ (k .long), (k .rules, (eq-eqb _ _ (k .points), tt)))
 
-  pub own3 : {next : ℕ} → Section3 s end at next → AllHold (ownChecks s x at 3)
+  of-four : Section4 s (x .first) (x .section3) at → AllHold (ownChecks s x at 4)
   unfolding ownChecks
-  own3 k = (eq-eqb _ _ (k .long), (k .rules, (eq-eqb _ _ (k .points), tt)))
+  of-four k = (eq-eqb _ _ (k .long), (k .rules, tt))
 
-  pub own4 : {next : ℕ} → Section4 s end (x .first) (x .section3) at next → AllHold (ownChecks s x at 4)
+  of-five : Section5 s (x .section3) (x .section4) at → AllHold (ownChecks s x at 5)
   unfolding ownChecks
-  own4 k = (eq-eqb _ _ (k .long), (k .rules, tt))
-
-  pub own5 : {next : ℕ} → Section5 s end (x .section3) (x .section4) at next → AllHold (ownChecks s x at 5)
-  unfolding ownChecks
-  own5 k = (
+  of-five k = (
     eq-eqb _ _ (k .long),
     (
       k .rules,
@@ -87,17 +70,12 @@ module _ (s : List ℕ) (end : ℕ) (x : Context) (at : ℕ) where
     ),
   )
 
-  pub own6 : {next : ℕ} → Section6 s end at next → AllHold (ownChecks s x at 6)
-  unfolding ownChecks
-  own6 k = (eq-eqb _ _ (k .long), (k .rules, tt))
-
   -- section 5 has held V to M, so that it is no more than 252
-  pub own7 : {s4 d next : ℕ} → Section5 s end (x .section3) s4 (x .section5) d → Section7 s end (x .section3) (x .section5) at next
-      → AllHold (ownChecks s x at 7)
+  of-seven : (s4 : ℕ) → Section5 s (x .section3) s4 (x .section5) → Section7 s (x .section3) (x .section5) at → AllHold (ownChecks s x at 7)
   unfolding ownChecks
-  own7 {s4} five k =
+  of-seven s4 fifth k =
       let p = productOf (parameterAt s s4) in
-      let low = greatest-bound s (x .section5) (levelCount p) (five .rules) in
+      let low = greatest-bound s (x .section5) (levelCount p) (fifth .rules) in
       let few = count-le p in (
         le-leb _ _ (k .long),
         (
@@ -105,3 +83,30 @@ module _ (s : List ℕ) (end : ℕ) (x : Context) (at : ℕ) where
           (exactly-gives (greatestAt s (x .section5)) (pointsAt s (x .section3)) (dataAt s at) (k .bins), tt),
         ),
       )
+
+pub says : Says ownChecks kinds
+says =
+    record {
+      three = three;
+      four = four;
+      five = five;
+      seven = seven;
+      of-three = of-three;
+      of-four = of-four;
+      of-five = of-five;
+      of-seven = of-seven;
+    }
+
+-- a section 3 that passes has few points
+pub few-points : (s : List ℕ) (x : Context) (at : ℕ) → AllHold (ownChecks s x at 3) → pointsAt s at ≤ 2097152
+unfolding rules3
+few-points s x at h = points-bound s at 50120 scanRules (three s x at h .rules)
+
+-- and each check names the section's place
+pub own-at : OwnAt ownChecks
+unfolding ownChecks
+own-at s x at n =
+    either (eqb n 3) at _ _ (refl, (refl, (refl, tt)))
+    (either (eqb n 4) at _ _ (refl, (refl, tt))
+    (either (eqb n 5) at _ _ (refl, (refl, (refl, (refl, tt))))
+    (either (eqb n 7) at _ _ (refl, (refl, (refl, tt))) tt)))

@@ -1,4 +1,4 @@
--- What an accepted file says of each of its cuts: the facts that a call goes by once `walk` has accepted. (Proved in proofs/GoodCuts.antt.)
+-- What an accepted file says of each of its cuts: the facts that a call goes by once a walk has accepted. (Proved in proofs/GoodCuts.antt.)
 use Prim.Native.Nat.{ℕ, _+_, _*_, _≤_}
 use mathlib.Core.Path.{_≡_}
 use mathlib.Core.List.{List}
@@ -7,8 +7,9 @@ use lib.ListN.{length}
 use Rattle.rules.specs.Fields.{lengthAt}
 use Rattle.runs.specs.Run.{gives}
 use Rattle.values.specs.Published.{levelCount}
-use Rattle.layout.specs.Parts.{dataAt, productIn, binsIn, raysIn, greatestIn}
-use Rattle.layout.specs.declared.Cut.{Cut}
+use Rattle.sections.specs.Parts.{binsIn, raysIn}
+use Rattle.sections.specs.declared.Cut.{Cut}
+use Rattle.layout.specs.Parts.{dataAt, productIn, greatestIn}
 
 pub record GoodCut (s : List ℕ) (c : Cut) : Type 0 where
   pub bins-some : 1 ≤ binsIn s c

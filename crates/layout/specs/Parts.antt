@@ -4,11 +4,12 @@ use mathlib.Core.List.{List}
 use mathlib.Core.Bool.{cond}
 use lib.Dec.{eqb}
 use lib.ListN.{take, drop, getD}
-use Rattle.rules.specs.Fields.{lengthAt, binsAt, raysAt, parameterAt, greatestAt}
+use Rattle.rules.specs.Fields.{lengthAt, parameterAt, greatestAt}
 use Rattle.runs.specs.Run.{levels}
 use Rattle.values.specs.declared.Product.{Product}
 use Rattle.values.specs.declared.Product.the-variants.{Reflectivity, Velocity}
-use Rattle.layout.specs.declared.Cut.{Cut}
+use Rattle.sections.specs.Parts.{binsIn}
+use Rattle.sections.specs.declared.Cut.{Cut}
 
 -- parameter 1 is base reflectivity, 2 Doppler velocity
 unfoldable pub productOf : ℕ → Product
@@ -22,15 +23,9 @@ tableAt s at = take (lengthAt s at - 17) (drop (at + 17) s)
 unfoldable pub dataAt : List ℕ → ℕ → List ℕ
 dataAt s at = take (lengthAt s at - 5) (drop (at + 5) s)
 
--- a cut of a file, by the places of its sections: its product, Nb, Nr, V and levels
+-- a cut of a file, by the places of its sections: its product, V and levels
 unfoldable pub productIn : List ℕ → Cut → Product
 productIn s c = productOf (parameterAt s (c .section4))
-
-unfoldable pub binsIn : List ℕ → Cut → ℕ
-binsIn s c = binsAt s (c .section3)
-
-unfoldable pub raysIn : List ℕ → Cut → ℕ
-raysIn s c = raysAt s (c .section3)
 
 unfoldable pub greatestIn : List ℕ → Cut → ℕ
 greatestIn s c = greatestAt s (c .section5)

@@ -4,10 +4,11 @@ use mathlib.Core.Path.{_≡_, refl, ap}
 use mathlib.Core.List.{List, []}
 use native.Mathlib.Omega.{arith}
 use lib.ListN.{length, getD}
-use Rattle.layout.specs.Verdict.{Verdict, accepted, refused, verdict, noCut}
+use Rattle.sections.specs.Verdict.{Verdict, accepted, refused, noCut}
+use Rattle.layout.specs.Verdict.{verdict}
 use Rattle.layout.specs.Accepted.{Accepted}
 use Rattle.layout.specs.Good.{GoodCut}
-use Rattle.layout.specs.declared.Cut.{Cut}
+use Rattle.sections.specs.declared.Cut.{Cut}
 use Rattle.layout.proofs.Exact.{accepted-only}
 use Rattle.layout.proofs.GoodCuts.{good-accepted}
 use Rattle.cuts.specs.After.{cutAfter}

@@ -5,8 +5,8 @@ use mathlib.Core.List.{List, [], _∷_, _++_, append-nil}
 use native.Mathlib.Omega.{arith}
 use lib.ListN.{length, take, drop, length-append, length-take, length-drop}
 use lib.Seq.{take-take}
-use Rattle.layout.specs.Refusal.{numberOf, placeOf}
-use Rattle.layout.specs.declared.FileRefusal.{FileRefusal}
+use Rattle.sections.specs.Refusal.{numberOf, placeOf}
+use Rattle.sections.specs.declared.FileRefusal.{FileRefusal}
 use Rattle.stretches.specs.Stretch.{Entry}
 use Rattle.stretches.specs.declared.Listing.{Listing}
 use Rattle.lines.specs.Put.{Put}

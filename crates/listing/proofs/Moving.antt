@@ -8,10 +8,10 @@ use native.Mathlib.Omega.{arith}
 use lib.IntN.{pos}
 use lib.ListN.{length, take, drop, getD, length-take, length-drop}
 use lib.Seq.{length-sets}
-use Rattle.layout.specs.Parts.{binsIn, raysIn}
+use Rattle.sections.specs.Parts.{binsIn, raysIn}
 use Rattle.layout.specs.Good.{GoodCut}
-use Rattle.layout.specs.Verdict.{noCut}
-use Rattle.layout.specs.declared.Cut.{Cut}
+use Rattle.sections.specs.Verdict.{noCut}
+use Rattle.sections.specs.declared.Cut.{Cut}
 use Rattle.stretches.specs.Stretch.{Entry, perEntry, wordsOf}
 use Rattle.stretches.specs.Call.{houseThreshold, fitting, answerOf, outOf, rightPoint}
 use Rattle.stretches.specs.declared.Listing.{Listing}

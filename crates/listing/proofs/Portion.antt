@@ -12,9 +12,10 @@ use lib.Seq.{take-all}
 use lib.IntN.{ℤ}
 use Rattle.runs.specs.Run.{levels}
 use Rattle.runs.proofs.Bins.{either}
-use Rattle.layout.specs.Parts.{productIn, binsIn, raysIn, greatestIn, dataAt}
+use Rattle.sections.specs.Parts.{binsIn, raysIn}
+use Rattle.layout.specs.Parts.{productIn, greatestIn, dataAt}
 use Rattle.layout.specs.Good.{GoodCut}
-use Rattle.layout.specs.declared.Cut.{Cut}
+use Rattle.sections.specs.declared.Cut.{Cut}
 use Rattle.stretches.specs.Stretch.{Entry, perEntry, kindAt, fresh, starts, entryAt, more, listFrom, stretchesOf, past}
 use Rattle.stretches.specs.Call.{scaleOf, listed, fitting, answer, answerOf, rightPoint}
 use Rattle.stretches.specs.declared.Listing.{Listing}

@@ -5,13 +5,14 @@ use mathlib.Core.List.{List, _++_}
 use native.Mathlib.Omega.{arith}
 use borrow.Author.Tests.{lt-ltb, le-ltb}
 use lib.ListN.{length, getD}
-use Rattle.layout.specs.Refusal.{numberOf, placeOf}
-use Rattle.layout.specs.Verdict.{Verdict, accepted, refused, verdict, noCut, answerFor}
-use Rattle.layout.specs.declared.Cut.{Cut}
-use Rattle.layout.specs.declared.FileRefusal.{FileRefusal}
-use Rattle.layout.specs.declared.FileRefusal.the-variants.{FileSize}
-use Rattle.layout.specs.declared.Found.{Found}
-use Rattle.layout.specs.declared.Walked.the-variants as W
+use Rattle.sections.specs.Refusal.{numberOf, placeOf}
+use Rattle.sections.specs.Verdict.{Verdict, accepted, refused, noCut, answerFor}
+use Rattle.layout.specs.Verdict.{verdict}
+use Rattle.sections.specs.declared.Cut.{Cut}
+use Rattle.sections.specs.declared.FileRefusal.{FileRefusal}
+use Rattle.sections.specs.declared.FileRefusal.the-variants.{FileSize}
+use Rattle.sections.specs.declared.Found.{Found}
+use Rattle.sections.specs.declared.Walked.the-variants as W
 use Rattle.lines.specs.Text.{refusedLine, endLine}
 use Rattle.listing.specs.Listing.{cutLines, entryCount, verdictText, textOf}
 use Rattle.listing.specs.Progress.{cutsBy, cutsIn, cutBegun, textAt, turnText, textFrom, Sound}

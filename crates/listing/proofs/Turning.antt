@@ -5,8 +5,8 @@ use mathlib.Core.List.{List, [], _∷_, _++_, append-assoc}
 use native.Mathlib.Omega.{arith}
 use lib.ListN.{length, take, drop, getD, drop-of-length-le, take-append-drop}
 use lib.Seq.{drop-cons, drop-drop}
-use Rattle.layout.specs.Verdict.{noCut}
-use Rattle.layout.specs.declared.Cut.{Cut}
+use Rattle.sections.specs.Verdict.{noCut}
+use Rattle.sections.specs.declared.Cut.{Cut}
 use Rattle.stretches.specs.Stretch.{Entry}
 use Rattle.lines.specs.Text.{entryLines, endLine}
 use Rattle.lines.proofs.Lines.{lines-append}

@@ -8,10 +8,12 @@ use lib.ListN.{length}
 use lib.IntN.{pos}
 use Rattle.values.specs.declared.Product.{Product}
 use Rattle.values.specs.declared.Product.the-variants.{Reflectivity, Velocity}
-use Rattle.layout.specs.Parts.{productIn, binsIn, raysIn}
-use Rattle.layout.specs.Refusal.{numberOf, placeOf}
-use Rattle.layout.specs.Verdict.{Verdict, accepted, refused, verdict}
-use Rattle.layout.specs.declared.Cut.{Cut}
+use Rattle.sections.specs.Parts.{binsIn, raysIn}
+use Rattle.layout.specs.Parts.{productIn}
+use Rattle.sections.specs.Refusal.{numberOf, placeOf}
+use Rattle.sections.specs.Verdict.{Verdict, accepted, refused}
+use Rattle.layout.specs.Verdict.{verdict}
+use Rattle.sections.specs.declared.Cut.{Cut}
 use Rattle.stretches.specs.Stretch.{Entry}
 use Rattle.stretches.specs.Call.{houseThreshold}
 use Rattle.cuts.specs.Bins.{stretchesIn}

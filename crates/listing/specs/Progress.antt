@@ -4,10 +4,11 @@ use mathlib.Core.Path.{_≡_}
 use mathlib.Core.Bool.{Bool, true, false}
 use mathlib.Core.List.{List, [], _++_}
 use lib.ListN.{length, take, drop, getD}
-use Rattle.layout.specs.Parts.{binsIn, raysIn}
-use Rattle.layout.specs.Refusal.{numberOf, placeOf}
-use Rattle.layout.specs.Verdict.{Verdict, accepted, refused, verdict, noCut}
-use Rattle.layout.specs.declared.Cut.{Cut}
+use Rattle.sections.specs.Parts.{binsIn, raysIn}
+use Rattle.sections.specs.Refusal.{numberOf, placeOf}
+use Rattle.sections.specs.Verdict.{Verdict, accepted, refused, noCut}
+use Rattle.layout.specs.Verdict.{verdict}
+use Rattle.sections.specs.declared.Cut.{Cut}
 use Rattle.stretches.specs.Stretch.{Entry, perEntry}
 use Rattle.stretches.specs.Call.{answerOf, rightPoint}
 use Rattle.stretches.specs.declared.Listing.{Listing}

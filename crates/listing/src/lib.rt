@@ -2,9 +2,9 @@
 // gives the standing before the first octet, and `page` writes the next octets of the text and hands the next standing on (proofs/Pages.antt: the
 // pages joined are the text). The file's checks are made once. The words of a listing are kept between pages, so that a cut is listed in few
 // portions, however small the page. Below it stand `layout`, `cuts`, `stretches` and `lines`; above it the programs.
-use layout::Cut;
-use layout::FileRefusal;
-use layout::Walked;
+use sections::Cut;
+use sections::FileRefusal;
+use sections::Walked;
 use stretches::Listing;
 use values::Product;
 ghost use mathlib.Core.Path.{_≡_};
@@ -12,7 +12,7 @@ ghost use mathlib.Core.Bool.{false};
 ghost use mathlib.Core.List.{List};
 ghost use Prim.Native.Nat.{ℕ, _+_, _≤_, _<_, min};
 ghost use lib.ListN.{length};
-ghost use Rattle.layout.specs.Refusal.{numberOf, placeOf};
+ghost use Rattle.sections.specs.Refusal.{numberOf, placeOf};
 ghost use Rattle.stretches.specs.Stretch.{perEntry};
 ghost use Rattle.lines.specs.Put.{Put, lineRoom};
 ghost use Rattle.listing.specs.Listing.{productNumber, headOf, textOf};
@@ -130,7 +130,7 @@ pub fn start(file: &[u8]) -> Progress
     if 65536 < file.len() {
         return Progress::Refused(FileRefusal::FileSize);
     }
-    match layout::walk(file, 0) {
+    match walks::walk(file, 0) {
         Walked::Whole(f) => {
             let cut = f.cut;
             Progress::Head(cut_begun(0, f.cuts, cut, 0))

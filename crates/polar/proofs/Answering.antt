@@ -7,8 +7,9 @@ use native.Mathlib.Omega.{arith}
 use borrow.Author.Tests.{lt-ltb, le-ltb}
 use lib.IntN.{ℤ}
 use Rattle.values.specs.Reading.{readingOf}
-use Rattle.layout.specs.Parts.{productIn, binsIn, raysIn, levelIn}
-use Rattle.layout.specs.declared.Cut.{Cut}
+use Rattle.sections.specs.Parts.{binsIn, raysIn}
+use Rattle.layout.specs.Parts.{productIn, levelIn}
+use Rattle.sections.specs.declared.Cut.{Cut}
 use Rattle.stretches.specs.Call.{answerOf, rightT, rightPoint}
 use Rattle.cuts.specs.Bins.{stretchesIn}
 use Rattle.polar.specs.Rays.{rayOn, binOf, binOn}

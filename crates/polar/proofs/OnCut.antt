@@ -7,11 +7,11 @@ use native.Mathlib.Omega.{arith}
 use borrow.Author.Tests.{lt-ltb, le-ltb}
 use lib.Dec.{ltb}
 use lib.ListN.{length, getD}
-use Rattle.layout.specs.Verdict.{Verdict, accepted, refused, noCut, answerFor}
-use Rattle.layout.specs.declared.Cut.{Cut}
-use Rattle.layout.specs.declared.Found.{Found}
-use Rattle.layout.specs.declared.FileRefusal.{FileRefusal}
-use Rattle.layout.specs.declared.Walked.the-variants.{Whole, Rejected}
+use Rattle.sections.specs.Verdict.{Verdict, accepted, refused, noCut, answerFor}
+use Rattle.sections.specs.declared.Cut.{Cut}
+use Rattle.sections.specs.declared.Found.{Found}
+use Rattle.sections.specs.declared.FileRefusal.{FileRefusal}
+use Rattle.sections.specs.declared.Walked.the-variants.{Whole, Rejected}
 use Rattle.polar.specs.Cuts.{onCut, cutAt}
 use Rattle.polar.specs.Opening.{summaryOf, opened}
 use Rattle.polar.specs.declared.Opened.the-variants as O

@@ -4,9 +4,10 @@ use mathlib.Core.List.{List}
 use mathlib.Core.Bool.{cond}
 use lib.Dec.{ltb}
 use lib.ListN.{length, getD}
-use Rattle.layout.specs.Verdict.{Verdict, accepted, refused, verdict, noCut}
-use Rattle.layout.specs.declared.Cut.{Cut}
-use Rattle.layout.specs.declared.FileRefusal.{FileRefusal}
+use Rattle.sections.specs.Verdict.{Verdict, accepted, refused, noCut}
+use Rattle.layout.specs.Verdict.{verdict}
+use Rattle.sections.specs.declared.Cut.{Cut}
+use Rattle.sections.specs.declared.FileRefusal.{FileRefusal}
 
 -- the file's own refusal; then 10 where the file has no cut i; then what the cut says
 unfoldable pub onCut : {A : Type 0} → (FileRefusal → A) → A → (Cut → A) → ℕ → Verdict → A

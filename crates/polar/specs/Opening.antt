@@ -8,8 +8,9 @@ use Rattle.octets.specs.Octets.{signed}
 use Rattle.rules.specs.Rules.{field}
 use Rattle.rules.specs.Fields.{siteAt, binsAt, raysAt}
 use Rattle.layout.specs.Parts.{productIn}
-use Rattle.layout.specs.Verdict.{Verdict, accepted, refused, verdict, noCut}
-use Rattle.layout.specs.declared.Cut.{Cut}
+use Rattle.sections.specs.Verdict.{Verdict, accepted, refused, noCut}
+use Rattle.layout.specs.Verdict.{verdict}
+use Rattle.sections.specs.declared.Cut.{Cut}
 use Rattle.polar.specs.Cuts.{onCut}
 use Rattle.polar.specs.declared.Summary.{Summary}
 use Rattle.polar.specs.declared.Opened.{Opened}

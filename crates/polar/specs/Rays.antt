@@ -11,9 +11,10 @@ use Rattle.values.specs.Reading.{readingOf}
 use Rattle.values.specs.Ray.{marksOf, valuesOf}
 use Rattle.values.specs.declared.Reading.{Reading}
 use Rattle.values.specs.declared.Reading.the-variants as R
-use Rattle.layout.specs.Parts.{productIn, binsIn, raysIn, levelIn}
+use Rattle.sections.specs.Parts.{binsIn, raysIn}
+use Rattle.layout.specs.Parts.{productIn, levelIn}
 use Rattle.layout.specs.Verdict.{verdict}
-use Rattle.layout.specs.declared.Cut.{Cut}
+use Rattle.sections.specs.declared.Cut.{Cut}
 use Rattle.cuts.specs.Bins.{rayIn}
 use Rattle.polar.specs.Cuts.{onCut, cutIn}
 use Rattle.polar.specs.declared.RayAnswer.{RayAnswer}

@@ -1,6 +1,6 @@
 -- Document 01, "Refusal numbers": the number and the place of each refusal of a file call. After the file's own: 10, then 11, both at place 0.
 use Prim.Native.Nat.{ℕ}
-use Rattle.layout.specs.Refusal.{numberOf, placeOf}
+use Rattle.sections.specs.Refusal.{numberOf, placeOf}
 use Rattle.polar.specs.declared.AskRefusal.{AskRefusal}
 use Rattle.polar.specs.declared.AskRefusal.the-variants as A
 use Rattle.polar.specs.declared.FillRefusal.{FillRefusal}

@@ -4,9 +4,9 @@ use mathlib.Core.List.{List}
 use mathlib.Core.Bool.{cond, _&&_}
 use lib.Dec.{ltb}
 use lib.IntN.{ℤ, pos}
-use Rattle.layout.specs.Parts.{binsIn, raysIn}
+use Rattle.sections.specs.Parts.{binsIn, raysIn}
 use Rattle.layout.specs.Verdict.{verdict}
-use Rattle.layout.specs.declared.Cut.{Cut}
+use Rattle.sections.specs.declared.Cut.{Cut}
 use Rattle.stretches.specs.Stretch.{perEntry}
 use Rattle.stretches.specs.Call.{houseThreshold, answerOf, outOf, rightT, rightPoint}
 use Rattle.cuts.specs.Bins.{stretchesIn}

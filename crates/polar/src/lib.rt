@@ -1,9 +1,9 @@
 // THE CALLS of a file: document 01, "Calls". Each is lent the whole file, makes all the file's checks itself, then answers or refuses by 10, then 11;
 // none asks anything of its caller. What each answers, and what it leaves in lent memory, is one definition of specs/. Below it stand `layout` (the
 // file's checks) and `cuts` (one cut of an accepted file); above it `lines` and `lister` (the list as text) and `polar_c` (the calls for C and Rust).
-use layout::Cut;
-use layout::FileRefusal;
-use layout::Walked;
+use sections::Cut;
+use sections::FileRefusal;
+use sections::Walked;
 use stretches::Listing;
 use values::Product;
 use values::Reading;
@@ -122,7 +122,7 @@ fn summary_of(file: &[u8], n: usize, c: Cut) -> Summary
 pub fn open(file: &[u8]) -> Opened
     ensures { λ r. ⌜ r ≡ openAnswer (now (file .entry)) ⌝ }
 {
-    match layout::walk(file, 0) {
+    match walks::walk(file, 0) {
         Walked::Whole(f) => {
             let c = f.cut;
             Opened::File(summary_of(file, f.cuts, c))
@@ -172,7 +172,7 @@ fn info_of(file: &[u8], c: Cut) -> CutInfo
 pub fn cut_info(file: &[u8], i: usize) -> CutAnswer
     ensures { λ r. ⌜ r ≡ cutAnswer (now (file .entry)) i ⌝ }
 {
-    match layout::walk(file, i) {
+    match walks::walk(file, i) {
         Walked::Whole(f) => {
             let c = f.cut;
             if i < f.cuts {
@@ -208,7 +208,7 @@ pub fn ray_levels(file: &[u8], i: usize, ray: usize, out: &mut [u8]) -> RayAnswe
     ensures { λ r. ⌜ r ≡ rayAnswer (now (file .entry)) i ray (length (now (out .entry))) ⌝ }
     ensures { λ r. ⌜ now (out .exit) ≡ levelsAfter r (now (file .entry)) i ray (now (out .entry)) ⌝ }
 {
-    match layout::walk(file, i) {
+    match walks::walk(file, i) {
         Walked::Whole(f) => {
             let c = f.cut;
             if i < f.cuts {
@@ -253,7 +253,7 @@ pub fn ray_values(
     ensures { λ r. ⌜ now (marks .exit) ≡ marksAfter r (now (file .entry)) i ray (now (marks .entry)) ⌝ }
     ensures { λ r. ⌜ now (values .exit) ≡ valuesAfter r (now (file .entry)) i ray (now (values .entry)) ⌝ }
 {
-    match layout::walk(file, i) {
+    match walks::walk(file, i) {
         Walked::Whole(f) => {
             let c = f.cut;
             if i < f.cuts {
@@ -295,7 +295,7 @@ fn bin_value_on(file: &[u8], c: Cut, ray: usize, bin: usize) -> BinAnswer
 pub fn bin_value(file: &[u8], i: usize, ray: usize, bin: usize) -> BinAnswer
     ensures { λ r. ⌜ r ≡ binAnswer (now (file .entry)) i ray bin ⌝ }
 {
-    match layout::walk(file, i) {
+    match walks::walk(file, i) {
         Walked::Whole(f) => {
             let c = f.cut;
             if i < f.cuts {
@@ -347,7 +347,7 @@ pub fn stretches(
     ensures { λ r. ⌜ r ≡ stretchAnswer (now (file .entry)) i t ray bin (length (now (words .entry))) ⌝ }
     ensures { λ r. ⌜ now (words .exit) ≡ wordsAfter r (now (file .entry)) i t ray bin (now (words .entry)) ⌝ }
 {
-    match layout::walk(file, i) {
+    match walks::walk(file, i) {
         Walked::Whole(f) => {
             let c = f.cut;
             if i < f.cuts {

@@ -9,7 +9,7 @@ use lib.IntN.{ℤ, pos}
 use lib.Ieee.{Float}
 use Rattle.values.specs.declared.Product.{Product}
 use Rattle.values.specs.declared.Product.the-variants.{Reflectivity, Velocity}
-use Rattle.layout.specs.Refusal.{numberOf, placeOf}
+use Rattle.sections.specs.Refusal.{numberOf, placeOf}
 use Rattle.polar.specs.Refusals.{askNumber, askPlace, fillNumber, fillPlace}
 use Rattle.polar.specs.Opening.{openAnswer, cutAnswer}
 use Rattle.polar.specs.Rays.{rayAnswer, levelsAfter, marksAfter, valuesAfter, binAnswer}

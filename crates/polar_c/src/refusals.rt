@@ -2,14 +2,14 @@
 ghost use mathlib.Core.Path.{_≡_};
 ghost use Rattle.runs.specs.Read.{readNumber, readPlace, checkNumber};
 ghost use Rattle.packing.specs.Write.{writeNumber, writePlace};
-ghost use Rattle.layout.specs.Refusal.{numberOf, placeOf};
+ghost use Rattle.sections.specs.Refusal.{numberOf, placeOf};
 ghost use Rattle.polar.specs.Refusals.{askNumber, askPlace, fillNumber, fillPlace};
-use layout::FileRefusal;
 use packing::WriteRefusal;
 use polar::AskRefusal;
 use polar::FillRefusal;
 use runs::CheckRefusal;
 use runs::ReadRefusal;
+use sections::FileRefusal;
 
 // ---- of the bare run calls
 

@@ -1,14 +1,14 @@
 -- What a list of rules that is met says of each field: one law for every list, by the rule's place in it; then the bounds that others go by.
 use Prim.Native.Nat.{ℕ, zero, suc, _≤_, _<_}
 use mathlib.Core.Path.{_≡_}
-use mathlib.Core.List.{List, [], _∷_}
+use mathlib.Core.List.{List, [], _∷_, _++_}
 use mathlib.Core.Bool.{true}
 use native.Mathlib.Omega.{arith}
 use native.Mathlib.Nat.{not-suc-le-zero, le-of-suc-le-suc, mul-le-mul}
 use borrow.Author.Tests.{leb-true}
 use lib.ListN.{length, getD}
 use lib.Dec.{leb}
-use Rattle.rules.specs.Rules.{Rule, within, is, field, meets, meetsAll, rules3, rules4, rules5}
+use Rattle.rules.specs.Rules.{Rule, within, is, field, meets, meetsAll, gridRules, rules4, rules5}
 use Rattle.rules.specs.Fields.{binsAt, raysAt, pointsAt, parameterAt, greatestAt}
 use Rattle.rules.proofs.Chains.{and-true-both}
 
@@ -26,18 +26,18 @@ within-is s at k w lo hi h =
     (leb-true _ _ (e .0), leb-true _ _ (e .1))
 
 module _ (s : List ℕ) (at : ℕ) where
-  -- section 3: Nb from 1 to 2048, Nr from 1 to 1024, and so at most 2,097,152 points
-  pub bins-bound : meetsAll s at rules3 ≡ true → (1 ≤ binsAt s at) × (binsAt s at ≤ 2048)
-  unfolding rules3 binsAt
-  bins-bound h = within-is s at 15 4 1 2048 (nth-rule s at rules3 (is 0 0 0) h 4 (omega arith))
+  -- section 3, whatever its template: Nb from 1 to 2048, Nr from 1 to 1024, and so at most 2,097,152 points
+  pub bins-bound : (template : ℕ) (rest : List Rule) → meetsAll s at (gridRules template ++ rest) ≡ true → (1 ≤ binsAt s at) × (binsAt s at ≤ 2048)
+  unfolding binsAt
+  bins-bound template rest h = within-is s at 15 4 1 2048 (nth-rule s at (gridRules template ++ rest) (is 0 0 0) h 4 (omega arith))
 
-  pub rays-bound : meetsAll s at rules3 ≡ true → (1 ≤ raysAt s at) × (raysAt s at ≤ 1024)
-  unfolding rules3 raysAt
-  rays-bound h = within-is s at 19 4 1 1024 (nth-rule s at rules3 (is 0 0 0) h 5 (omega arith))
+  pub rays-bound : (template : ℕ) (rest : List Rule) → meetsAll s at (gridRules template ++ rest) ≡ true → (1 ≤ raysAt s at) × (raysAt s at ≤ 1024)
+  unfolding raysAt
+  rays-bound template rest h = within-is s at 19 4 1 1024 (nth-rule s at (gridRules template ++ rest) (is 0 0 0) h 5 (omega arith))
 
-  pub points-bound : meetsAll s at rules3 ≡ true → pointsAt s at ≤ 2097152
+  pub points-bound : (template : ℕ) (rest : List Rule) → meetsAll s at (gridRules template ++ rest) ≡ true → pointsAt s at ≤ 2097152
   unfolding pointsAt
-  points-bound h = mul-le-mul (bins-bound h .1) (rays-bound h .1)
+  points-bound template rest h = mul-le-mul (bins-bound template rest h .1) (rays-bound template rest h .1)
 
   -- section 4: parameter 1 or 2
   pub parameter-bound : (product site : ℕ) → meetsAll s at (rules4 product site) ≡ true → (1 ≤ parameterAt s at) × (parameterAt s at ≤ 2)

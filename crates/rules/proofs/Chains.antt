@@ -6,7 +6,7 @@ use lib.Pow.{pow-pos, pow-add}
 use lib.Dec.{leb}
 use borrow.Author.Tests.{leb-true, le-leb}
 use mathlib.Core.Bool.{Bool, true, false, false≢true, _&&_, _||_, and-true, and-assoc}
-use mathlib.Core.List.{List, [], _∷_}
+use mathlib.Core.List.{List, [], _∷_, _++_}
 use Rattle.rules.specs.Rules.{Rule, meets, meetsAll}
 
 pub both : {a b c d : Bool} → a ≡ c → b ≡ d → (a && b) ≡ (c && d)
@@ -45,3 +45,9 @@ pub flat : (acc : Bool) (s : List ℕ) (at : ℕ) (rs : List Rule) → meetsFrom
 unfolding meetsAll
 flat acc s at [] = sym (and-true acc)
 flat acc s at (r ∷ rs) = flat (acc && meets s at r) s at rs ∙ and-assoc acc (meets s at r) (meetsAll s at rs)
+
+-- two lists of rules after each other
+pub meets-append : (s : List ℕ) (at : ℕ) (rs qs : List Rule) → meetsAll s at (rs ++ qs) ≡ (meetsAll s at rs && meetsAll s at qs)
+unfolding meetsAll
+meets-append s at [] qs = refl
+meets-append s at (r ∷ rs) qs = rw (meets-append s at rs qs) (sym (and-assoc (meets s at r) (meetsAll s at rs) (meetsAll s at qs)))

@@ -1,6 +1,6 @@
 -- Document 01, "Sections": the rules on the named fields of each section, in the document's order and with its numbers.
 use Prim.Native.Nat.{ℕ, _+_, _*_, _-_, _%_, _^_}
-use mathlib.Core.List.{List, [], _∷_}
+use mathlib.Core.List.{List, [], _∷_, _++_}
 use mathlib.Core.Bool.{Bool, true, false, _&&_, _||_}
 use lib.Dec.{leb}
 use Rattle.octets.specs.Octets.{be, signBit}
@@ -51,22 +51,32 @@ rules1 =
     ∷ is 21 1 7
     ∷ []
 
--- 3: 6, 11, 12 are 0; 13-14 is 50120; 15-18 Nb; 19-22 Nr; 23-26 latitude; 27-30 longitude; 31-34 Dx, not 0; 39 is 0; 40-41 start azimuth
--- (7-10, a point count, is no named field; 35-38, Dstart, has no rule)
-unfoldable pub rules3 : List Rule
-rules3 =
+-- 3, of a grid template, up to octet 34: 6, 11, 12 are 0; 13-14 the template's number; 15-18 Nb; 19-22 Nr; 23-26 latitude; 27-30 longitude;
+-- 31-34 Dx, not 0 (7-10, a point count, is no named field)
+abbrev pub gridRules : ℕ → List Rule
+gridRules template =
     is 6 1 0
     ∷ is 11 1 0
     ∷ is 12 1 0
-    ∷ is 13 2 50120
+    ∷ is 13 2 template
     ∷ within 15 4 1 2048
     ∷ within 19 4 1 1024
     ∷ magnitude 23 4 90000000
     ∷ within 27 4 0 360000000
     ∷ within 31 4 1 0xFFFFFFFF
-    ∷ is 39 1 0
-    ∷ within 40 2 0 36000
     ∷ []
+
+-- past octet 34: 39 is 0; 40-41 start azimuth (35-38, Dstart, has no rule)
+abbrev pub scanRules : List Rule
+scanRules = is 39 1 0 ∷ within 40 2 0 36000 ∷ []
+
+-- 3: both, with template 50120
+unfoldable pub rules3 : List Rule
+rules3 = gridRules 50120 ++ scanRules
+
+-- an octet that is 0, 1, 2 or 255
+abbrev pub modeRule : ℕ → Rule
+modeRule k = either (within k 1 0 2) (is k 1 255)
 
 -- 4, where the first cut's section 4 has `product` in octet 11 and `site` in octets 29-30: 6-7 is 0; 8-9 is 51022; 10 is 15; 11 is 1 or 2;
 -- 12 is 8; 13 is 1; 14 is 13; 38 is 0, 1, 2 or 255; 42-43 elevation constant, magnitude at most 9000, or missing; 11 and 29-30 as in the first cut
@@ -79,7 +89,7 @@ rules4 product site =
     ∷ is 12 1 8
     ∷ is 13 1 1
     ∷ is 14 1 13
-    ∷ either (within 38 1 0 2) (is 38 1 255)
+    ∷ modeRule 38
     ∷ either (magnitude 42 2 9000) (is 42 2 0xFFFF)
     ∷ is 11 1 product
     ∷ is 29 2 site

@@ -4,7 +4,7 @@ ghost use mathlib.Core.Path.{_≡_};
 ghost use Prim.Native.Nat.{ℕ};
 ghost use lib.ListN.{length};
 ghost use Rattle.octets.specs.Octets.{be};
-ghost use Rattle.rules.specs.Rules.{field, meets, meetsAll, within, magnitude, either, rules0, rules1, rules3, rules4, rules5, rules6, rules8};
+ghost use Rattle.rules.specs.Rules.{field, meets, meetsAll, within, magnitude, either, rules0, rules1, gridRules, modeRule, rules3, rules4, rules5, rules6, rules8};
 ghost use Rattle.rules.specs.Fields.{pointsAt};
 
 // Fields by octet, counted from 1 inside a section. No call has a condition: what is past the end reads as 0.
@@ -44,14 +44,14 @@ pub fn field64(s: &[u8], at: usize, k: u8) -> u64
     octets::be64(s, spot(s, at, k))
 }
 
-fn within8(s: &[u8], at: usize, k: u8, lo: u8, hi: u8) -> bool
+pub fn within8(s: &[u8], at: usize, k: u8, lo: u8, hi: u8) -> bool
     ensures { λ r. ⌜ r ≡ meets (now (s .entry)) at (within k 1 lo hi) ⌝ }
 {
     let n = field8(s, at, k);
     (lo <= n) & (n <= hi)
 }
 
-fn within16(s: &[u8], at: usize, k: u8, lo: u16, hi: u16) -> bool
+pub fn within16(s: &[u8], at: usize, k: u8, lo: u16, hi: u16) -> bool
     ensures { λ r. ⌜ r ≡ meets (now (s .entry)) at (within k 2 lo hi) ⌝ }
 {
     let n = field16(s, at, k);
@@ -112,20 +112,25 @@ pub fn fields1(s: &[u8], at: usize) -> bool
         & within8(s, at, 21, 7, 7)
 }
 
-pub fn fields3(s: &[u8], at: usize) -> bool
-    ensures { λ r. ⌜ r ≡ meetsAll (now (s .entry)) at rules3 ⌝ }
+// Section 3 of a grid template, up to octet 34.
+pub fn grid_fields(s: &[u8], at: usize, template: u16) -> bool
+    ensures { λ r. ⌜ r ≡ meetsAll (now (s .entry)) at (gridRules template) ⌝ }
 {
     within8(s, at, 6, 0, 0)
         & within8(s, at, 11, 0, 0)
         & within8(s, at, 12, 0, 0)
-        & within16(s, at, 13, 50120, 50120)
+        & within16(s, at, 13, template, template)
         & within32(s, at, 15, 1, 2048)
         & within32(s, at, 19, 1, 1024)
         & magnitude32(s, at, 23, 90000000)
         & within32(s, at, 27, 0, 360000000)
         & within32(s, at, 31, 1, 0xFFFFFFFF)
-        & within8(s, at, 39, 0, 0)
-        & within16(s, at, 40, 0, 36000)
+}
+
+pub fn fields3(s: &[u8], at: usize) -> bool
+    ensures { λ r. ⌜ r ≡ meetsAll (now (s .entry)) at rules3 ⌝ }
+{
+    grid_fields(s, at, 50120) & within8(s, at, 39, 0, 0) & within16(s, at, 40, 0, 36000)
 }
 
 pub fn fields4(s: &[u8], at: usize, product: u8, site: u16) -> bool
@@ -138,16 +143,17 @@ pub fn fields4(s: &[u8], at: usize, product: u8, site: u16) -> bool
         & within8(s, at, 12, 8, 8)
         & within8(s, at, 13, 1, 1)
         & within8(s, at, 14, 13, 13)
-        & mode_ok(s, at)
+        & mode_ok(s, at, 38)
         & elevation_ok(s, at)
         & within8(s, at, 11, product, product)
         & within16(s, at, 29, site, site)
 }
 
-fn mode_ok(s: &[u8], at: usize) -> bool
-    ensures { λ r. ⌜ r ≡ meets (now (s .entry)) at (either (within 38 1 0 2) (within 38 1 255 255)) ⌝ }
+// An octet that is 0, 1, 2 or 255.
+pub fn mode_ok(s: &[u8], at: usize, k: u8) -> bool
+    ensures { λ r. ⌜ r ≡ meets (now (s .entry)) at (modeRule k) ⌝ }
 {
-    within8(s, at, 38, 0, 2) | within8(s, at, 38, 255, 255)
+    within8(s, at, k, 0, 2) | within8(s, at, k, 255, 255)
 }
 
 fn elevation_ok(s: &[u8], at: usize) -> bool

@@ -12,8 +12,7 @@ use native.Mathlib.Omega.{arith}
 use lib.ListN.{length, drop, take-append-drop, length-drop}
 use Rattle.runs.specs.Run.{levels}
 use Rattle.stretches.specs.Stretch.{Entry, Scale, perEntry, kindAt, starts, entryAt, stretchesOf, past}
-use Rattle.stretches.specs.Call.{listed, fitting, answer, answerOf}
-use Rattle.stretches.specs.Call.{rightPoint}
+use Rattle.stretches.specs.Call.{listed, fitting, answer, answerOf, rightPoint}
 use Rattle.stretches.specs.Meaning.{In}
 use Rattle.stretches.proofs.Meaning.{past-in, is-list}
 use Rattle.stretches.specs.Portions.{Point, next, from, joined, reached, Roomy}

@@ -1,7 +1,7 @@
 -- The promise of open fixes the number and the place.
 use mathlib.Core.Path.{ap}
 use Rattle.claims.specs.Numbers.{openedBy, openedAt}
-use Rattle.layout.specs.Verdict.{sized, verdict}
+use Rattle.sections.specs.Verdict.{sized, verdictBy}
 use Rattle.polar.specs.Opening.{openAnswer}
 use borrow.Author.Needs.{needs}
 use Rattle.claims.proofs.empty_file.Statement.{statement}
@@ -14,7 +14,7 @@ open-requires : tie.Need-open-requires
 open-requires c κs = search needs
 
 returns : tie.Need-returns
-unfolding openAnswer verdict sized
+unfolding openAnswer verdictBy sized
 returns c = (ap openedBy (c .«open» .ensures), ap openedAt (c .«open» .ensures))
 
 pub empty-file-spec : {M : Type 1} → statement M

@@ -1,7 +1,7 @@
 -- The promise of ray levels fixes the lent octets of a refused call.
 use mathlib.Core.Path.{ap, _∙_}
 use mathlib.Core.List.{[], _∷_}
-use Rattle.layout.specs.Verdict.{sized, verdict}
+use Rattle.sections.specs.Verdict.{sized, verdictBy}
 use Rattle.polar.specs.Cuts.{onCut}
 use Rattle.polar.specs.Rays.{rayAnswer, levelsAfter}
 use Rattle.polar.specs.declared.RayAnswer.{RayAnswer}
@@ -19,7 +19,7 @@ ray-levels-requires : tie.Need-ray-levels-requires
 ray-levels-requires c κs = search needs
 
 returns : tie.Need-returns
-unfolding rayAnswer levelsAfter onCut verdict sized
+unfolding rayAnswer levelsAfter onCut verdictBy sized
 returns c = let p = c .before .ray-levels .ensures in
     p .1 ∙ ap (λ (x : RayAnswer). levelsAfter x [] 0 0 (8 ∷ 9 ∷ [])) (p .0)
 

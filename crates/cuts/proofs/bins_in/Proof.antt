@@ -1,5 +1,5 @@
 -- The field of section 3.
-use Rattle.layout.specs.Parts.{binsIn}
+use Rattle.sections.specs.Parts.{binsIn}
 use Rattle.rules.specs.Fields.{binsAt}
 use mathlib.Core.Path.{_∙_}
 use borrow.Author.Needs.{needs}

@@ -1,6 +1,5 @@
 -- What `fill` asks and gives, said of a good cut (Places.antt).
 use Rattle.cuts.proofs.Places.{fill-asks, fill-gives, few-bins}
-use Rattle.cuts.proofs.Places.{few-bins}
 use native.Mathlib.Omega.{arith}
 use Prim.Native.Nat.{_-_}
 use mathlib.Core.Path.{_∙_}

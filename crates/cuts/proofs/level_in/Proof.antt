@@ -4,7 +4,7 @@ use mathlib.Core.Path.{_∙_, ap}
 use native.Mathlib.Omega.{arith}
 use denote.Ref.{now}
 use borrow.Author.Needs.{needs}
-use Rattle.layout.specs.Parts.{binsIn, raysIn}
+use Rattle.sections.specs.Parts.{binsIn, raysIn}
 use Rattle.cuts.proofs.Places.{few-bins, bin-inside, level-asks, level-gives, level-few}
 use Rattle.cuts.proofs.level_in.Statement.{statement}
 use Rattle.cuts.proofs.level_in.Tie as tie

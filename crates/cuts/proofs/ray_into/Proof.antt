@@ -1,7 +1,7 @@
 -- A ray's bins lie among all bins.
 use Rattle.cuts.proofs.Places.{few-bins, ray-inside}
 use Rattle.cuts.specs.Bins.{binsFrom, rayIn}
-use Rattle.layout.specs.Parts.{binsIn, raysIn}
+use Rattle.sections.specs.Parts.{binsIn, raysIn}
 use Rattle.runs.specs.Lent.{front}
 use denote.Ref.{now}
 use native.Mathlib.Omega.{arith}

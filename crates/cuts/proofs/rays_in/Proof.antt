@@ -1,5 +1,5 @@
 -- The field of section 3.
-use Rattle.layout.specs.Parts.{raysIn}
+use Rattle.sections.specs.Parts.{raysIn}
 use Rattle.rules.specs.Fields.{raysAt}
 use mathlib.Core.Path.{_∙_}
 use borrow.Author.Needs.{needs}

@@ -5,7 +5,7 @@ use native.Mathlib.Omega.{arith}
 use denote.Ref.{now}
 use borrow.Author.Needs.{needs}
 use Rattle.values.specs.Ray.{marksOf, valuesOf}
-use Rattle.layout.specs.Parts.{binsIn, raysIn}
+use Rattle.sections.specs.Parts.{binsIn, raysIn}
 use Rattle.cuts.proofs.Places.{few-bins, ray-inside, readings-ask, ray-gives}
 use Rattle.cuts.proofs.readings_into.Statement.{statement}
 use Rattle.cuts.proofs.readings_into.Tie as tie

@@ -5,73 +5,53 @@ use borrow.Author.Needs.{needs}
 use Rattle.layout.proofs.judge.Statement.{statement}
 use Rattle.layout.proofs.judge.Tie as tie
 
-judge1-requires : tie.Need-judge1-requires
-judge1-requires c κs = search needs
+judge3-requires : tie.Need-judge3-requires
+judge3-requires c κs = search needs
 
 returns : tie.Need-returns
 unfolding ownChecks
 returns c = let n = c .before .before .before .args .n in
-    rw (eq-eqb n 1 (c .before .if1 .taken)) (c .judge1 .ensures)
-
-judge3-requires : tie.Need-judge3-requires
-judge3-requires c κs = search needs
-
-returns-2 : tie.Need-returns-2
-unfolding ownChecks
-returns-2 c = let n = c .before .before .before .before .args .n in
-    rw (ne-eqb n 1 (c .before .before .if1 .left), eq-eqb n 3 (c .before .if2 .taken)) (c .judge3 .ensures)
+    rw (eq-eqb n 3 (c .before .if1 .taken)) (c .judge3 .ensures)
 
 judge4-requires : tie.Need-judge4-requires
 judge4-requires c κs = search needs
 
-returns-3 : tie.Need-returns-3
+returns-2 : tie.Need-returns-2
 unfolding ownChecks
-returns-3 c = let n = c .before .before .before .before .before .args .n in
-    rw (ne-eqb n 1 (c .before .before .before .if1 .left), ne-eqb n 3 (c .before .before .if2 .left), eq-eqb n 4 (c .before .if3 .taken)) (c .judge4 .ensures)
+returns-2 c = let n = c .before .before .before .before .args .n in
+    rw (ne-eqb n 3 (c .before .before .if1 .left), eq-eqb n 4 (c .before .if2 .taken)) (c .judge4 .ensures)
 
 judge5-requires : tie.Need-judge5-requires
 judge5-requires c κs = search needs
 
+returns-3 : tie.Need-returns-3
+unfolding ownChecks
+returns-3 c = let n = c .before .before .before .before .before .args .n in
+    rw (ne-eqb n 3 (c .before .before .before .if1 .left), ne-eqb n 4 (c .before .before .if2 .left), eq-eqb n 5 (c .before .if3 .taken)) (c .judge5 .ensures)
+
+judge7-requires : tie.Need-judge7-requires
+judge7-requires c κs = (c .before .before .before .before .before .pre .0, c .before .before .before .before .before .pre .1 (c .if4 .taken))
+
 returns-4 : tie.Need-returns-4
 unfolding ownChecks
 returns-4 c = let n = c .before .before .before .before .before .before .args .n in
-    rw (ne-eqb n 1 (c .before .before .before .before .if1 .left), ne-eqb n 3 (c .before .before .before .if2 .left), ne-eqb n 4 (c .before .before .if3 .left), eq-eqb n 5 (c .before .if4 .taken)) (c .judge5 .ensures)
-
-judge6-requires : tie.Need-judge6-requires
-judge6-requires c κs = search needs
+    rw (ne-eqb n 3 (c .before .before .before .before .if1 .left), ne-eqb n 4 (c .before .before .before .if2 .left), ne-eqb n 5 (c .before .before .if3 .left), eq-eqb n 7 (c .before .if4 .taken)) (c .judge7 .ensures)
 
 returns-5 : tie.Need-returns-5
 unfolding ownChecks
-returns-5 c = let n = c .before .before .before .before .before .before .before .args .n in
-    rw (ne-eqb n 1 (c .before .before .before .before .before .if1 .left), ne-eqb n 3 (c .before .before .before .before .if2 .left), ne-eqb n 4 (c .before .before .before .if3 .left), ne-eqb n 5 (c .before .before .if4 .left), eq-eqb n 6 (c .before .if5 .taken)) (c .judge6 .ensures)
-
-judge7-requires : tie.Need-judge7-requires
-judge7-requires c κs = (c .before .before .before .before .before .before .before .pre .0, c .before .before .before .before .before .before .before .pre .1 (c .if6 .taken))
-
-returns-6 : tie.Need-returns-6
-unfolding ownChecks
-returns-6 c = let n = c .before .before .before .before .before .before .before .before .args .n in
-    rw (ne-eqb n 1 (c .before .before .before .before .before .before .if1 .left), ne-eqb n 3 (c .before .before .before .before .before .if2 .left), ne-eqb n 4 (c .before .before .before .before .if3 .left), ne-eqb n 5 (c .before .before .before .if4 .left), ne-eqb n 6 (c .before .before .if5 .left), eq-eqb n 7 (c .before .if6 .taken)) (c .judge7 .ensures)
-
-returns-7 : tie.Need-returns-7
-unfolding ownChecks
-returns-7 c = let n = c .before .before .before .before .before .before .before .args .n in
-    rw (ne-eqb n 1 (c .before .before .before .before .before .if1 .left), ne-eqb n 3 (c .before .before .before .before .if2 .left), ne-eqb n 4 (c .before .before .before .if3 .left), ne-eqb n 5 (c .before .before .if4 .left), ne-eqb n 6 (c .before .if5 .left), ne-eqb n 7 (c .if6 .left))
+returns-5 c = let n = c .before .before .before .before .before .args .n in
+    rw (ne-eqb n 3 (c .before .before .before .if1 .left), ne-eqb n 4 (c .before .before .if2 .left), ne-eqb n 5 (c .before .if3 .left), ne-eqb n 7 (c .if4 .left))
 
 pub judge-spec : {M : Type 1} → statement M
 judge-spec =
     tie.close
     (tie.spec
-    judge1-requires
-    returns
     judge3-requires
-    returns-2
+    returns
     judge4-requires
-    returns-3
+    returns-2
     judge5-requires
-    returns-4
-    judge6-requires
-    returns-5
+    returns-3
     judge7-requires
-    returns-6
-    returns-7)
+    returns-4
+    returns-5)

@@ -1,10 +1,9 @@
 -- A law for each way out (Answering.antt).
 use Rattle.polar.specs.declared.StretchAnswer.the-variants.{Listed}
 use Rattle.cuts.specs.Bins.{stretchesIn}
-use Rattle.layout.specs.Parts.{raysIn}
+use Rattle.sections.specs.Parts.{raysIn}
 use Rattle.stretches.specs.Call.{rightT, rightPoint, answerOf, outOf}
 use Rattle.polar.proofs.Answering.{list-wrong-t, list-wrong-point, list-short, list-is}
-use Rattle.stretches.specs.Call.{rightT, outOf}
 use lib.IntN.{ℤ}
 use mir.ValLaws.{toZ-ofZ}
 use mir.Syntax.{w32}

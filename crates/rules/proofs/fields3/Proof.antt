@@ -1,76 +1,36 @@
--- One `both` for each rule; `flat` turns the chain that the code tests into the list of rules.
-use mathlib.Core.Bool.{true}
-use Rattle.rules.specs.Rules.{rules3}
+-- The part that every grid has, then one `both` for each rule of this one.
+use Rattle.rules.specs.Rules.{meetsAll, gridRules, scanRules, rules3}
 use borrow.Author.Needs.{needs}
-use mathlib.Core.Path.{_∙_}
+use mathlib.Core.Path.{sym, _∙_}
 use denote.Ref.{now}
-use Rattle.rules.proofs.Chains.{both, flat}
+use Rattle.rules.proofs.Chains.{both, flat, meets-append}
 use Rattle.rules.proofs.fields3.Statement.{statement}
 use Rattle.rules.proofs.fields3.Tie as tie
+
+grid-fields-requires : tie.Need-grid-fields-requires
+grid-fields-requires c κs = search needs
 
 within8-requires : tie.Need-within8-requires
 within8-requires c κs = search needs
 
-within8-requires-2 : tie.Need-within8-requires-2
-within8-requires-2 c κs = search needs
-
-within8-requires-3 : tie.Need-within8-requires-3
-within8-requires-3 c κs = search needs
-
 within16-requires : tie.Need-within16-requires
 within16-requires c κs = search needs
-
-within32-requires : tie.Need-within32-requires
-within32-requires c κs = search needs
-
-within32-requires-2 : tie.Need-within32-requires-2
-within32-requires-2 c κs = search needs
-
-magnitude32-requires : tie.Need-magnitude32-requires
-magnitude32-requires c κs = search needs
-
-within32-requires-3 : tie.Need-within32-requires-3
-within32-requires-3 c κs = search needs
-
-within32-requires-4 : tie.Need-within32-requires-4
-within32-requires-4 c κs = search needs
-
-within8-requires-4 : tie.Need-within8-requires-4
-within8-requires-4 c κs = search needs
-
-within16-requires-2 : tie.Need-within16-requires-2
-within16-requires-2 c κs = search needs
 
 returns : tie.Need-returns
 unfolding rules3
 returns c =
-    let a = c .before .before .before .before .before .before .before .before .before .before .before .before .args in
-    (both (both (both (both (both (both (both (both (both (both (c .before .before .before .before .before .before .before .before .before .before .within8 .ensures)
-    (c .before .before .before .before .before .before .before .before .before .within82 .ensures))
-    (c .before .before .before .before .before .before .before .before .within83 .ensures))
-    (c .before .before .before .before .before .before .before .within16 .ensures))
-    (c .before .before .before .before .before .before .within32 .ensures))
-    (c .before .before .before .before .before .within322 .ensures))
-    (c .before .before .before .before .magnitude32 .ensures))
-    (c .before .before .before .within323 .ensures))
-    (c .before .before .within324 .ensures))
-    (c .before .within84 .ensures))
-    (c .within162 .ensures))
-    ∙ flat true (now (a .s)) (a .at) rules3
+    let a = c .before .before .before .before .args in
+    (both (both (c .before .before .grid-fields .ensures)
+    (c .before .within8 .ensures))
+    (c .within16 .ensures))
+    ∙ flat (meetsAll (now (a .s)) (a .at) (gridRules 50120)) (now (a .s)) (a .at) scanRules
+    ∙ sym (meets-append (now (a .s)) (a .at) (gridRules 50120) scanRules)
 
 pub fields3-spec : {M : Type 1} → statement M
 fields3-spec =
     tie.close
     (tie.spec
+    grid-fields-requires
     within8-requires
-    within8-requires-2
-    within8-requires-3
     within16-requires
-    within32-requires
-    within32-requires-2
-    magnitude32-requires
-    within32-requires-3
-    within32-requires-4
-    within8-requires-4
-    within16-requires-2
     returns)

@@ -1,0 +1,9 @@
+pub mod Framed
+pub mod Order
+pub mod Faults
+pub mod Sections
+pub mod Own
+pub mod Grammar
+pub mod Exact
+pub mod Each
+pub mod Inside

@@ -1,0 +1,120 @@
+// What the two formats share: document 01, "Sections", "Refusal numbers" and "Order in a file". The order of sections, sections 0, 1, 6 and 8, the
+// checks at a place as lists, and the verdict on any octets, accepted or refused, by whatever a format says of its own sections 3, 4, 5 and 7. Below it
+// stands `rules` (the fields of each section); above it `layout` (run-length packed files) with its own sections, and `walks`, which walks.
+//
+// What is to be believed stands in specs/; proofs/Exact.antt has the theorems that a verdict accepts and refuses exactly the files of
+// specs/Accepted.antt and specs/Refused.antt, for every format whose checks say what it says. The state below is the walk's own.
+ghost use mathlib.Core.Path.{_≡_};
+ghost use mathlib.Core.Bool.{cond};
+ghost use Prim.Native.Nat.{_+_};
+ghost use Rattle.rules.specs.Fields.{lengthAt};
+ghost use Rattle.sections.specs.Places.{firstIn};
+
+// Why a file is refused, one case for each of document 01's numbers, with the place of the section concerned: specs/Refusal.antt.
+pub enum FileRefusal {
+    // 1: the lent file is under 20 or over 8,388,608 octets
+    FileSize,
+    // 2: section 0 is not as it should be
+    Section0,
+    // 3: no section of a right length and number stands there, or no `7777` after a 7
+    Frame(usize),
+    // 4: the section's own length
+    Length(usize),
+    // 5: a named field
+    Field(usize),
+    // 6: a point count
+    Points(usize),
+    // 7: the value table
+    Table(usize),
+    // 8: the data does not give exactly the bins
+    Bins(usize),
+    // 9: a 65th cut
+    CutCount(usize),
+    // 12: V over 253, by which runs have no base
+    BaseOfRuns(usize),
+}
+
+// The places of a cut's sections.
+pub struct Cut {
+    pub section3: usize,
+    pub section4: usize,
+    pub section5: usize,
+    pub section7: usize,
+}
+
+// An accepted file: how many cuts it has, and the one that was asked for.
+pub struct Found {
+    pub cuts: usize,
+    pub cut: Cut,
+}
+
+pub enum Walked {
+    Whole(Found),
+    Rejected(FileRefusal),
+}
+
+// What the checks of a section come to.
+pub enum Judged {
+    Fine,
+    Wrong(FileRefusal),
+}
+
+// Where the walk stands, with the number of the section before, the cuts ended and the places of the sections that later checks go by.
+pub struct State {
+    pub at: usize,
+    pub previous: u8,
+    pub cuts: usize,
+    pub first: usize,
+    pub section3: usize,
+    pub section4: usize,
+    pub section5: usize,
+}
+
+pub fn wide(x: u32) -> u64
+    ensures { λ r. ⌜ r ≡ x ⌝ }
+{
+    x as u64
+}
+
+pub fn place(x: u32) -> usize
+    ensures { λ r. ⌜ r ≡ x ⌝ }
+{
+    x as usize
+}
+
+pub fn pick(b: bool, x: usize, y: usize) -> usize
+    ensures { λ r. ⌜ r ≡ cond b x y ⌝ }
+{
+    if b { x } else { y }
+}
+
+// The first check that fails: this one, or what the later ones came to.
+pub fn unless(ok: bool, wrong: FileRefusal, later: Judged) -> Judged
+    ensures { λ r. ⌜ r ≡ cond ok later (Judged.Wrong wrong) ⌝ }
+{
+    if ok { later } else { Judged::Wrong(wrong) }
+}
+
+pub fn fine() -> Judged
+    ensures { λ r. ⌜ r ≡ Judged.Fine ⌝ }
+{
+    Judged::Fine
+}
+
+// The place past the section at a place. Past the file a length reads as 0.
+pub fn end_at(s: &[u8], at: usize) -> usize
+    ensures { λ r. ⌜ r ≡ at + lengthAt (now (s .entry)) at ⌝ }
+{
+    if at < s.len() {
+        at + place(rules::field32(s, at, 1))
+    } else {
+        at
+    }
+}
+
+// The place of the first cut's section 4, which is its own first.
+pub fn first_in(st: State) -> usize
+    ensures { λ r. ⌜ r ≡ firstIn st ⌝ }
+{
+    pick(st.first == 0, st.at, st.first)
+}

@@ -1,0 +1,103 @@
+-- At the end the closing, else framing, then room for a cut, then the section itself, for which a 7 needs no room; framing gives what the parts of
+-- the file ask.
+use Rattle.sections.proofs.Framed.{framed-is}
+use Rattle.sections.proofs.Order.{past-three}
+use Rattle.sections.specs.Places.{contextIn}
+use Rattle.sections.specs.Checks.{Context, framed, roomForCut, sectionChecks, checksAt}
+use Rattle.layout.specs.Checks.{checks7, ownChecks}
+use Rattle.sections.specs.Verdict.{firstFault}
+use Rattle.rules.specs.Fields.{lengthAt, numberAt, pointsAt}
+use Prim.Native.Nat.{ℕ, _+_, _≤_}
+use mathlib.Core.List.{List}
+use mathlib.Core.Bool.{true, and-false}
+use lib.ListN.{length}
+use borrow.Author.Tests.{eq-eqb, ne-eqb}
+use denote.Ref.{now}
+use native.Mathlib.Omega.{arith}
+use mathlib.Core.Path.{_≡_, sym, _∙_}
+use borrow.Author.Needs.{needs}
+use Rattle.walks.proofs.judge_here.Statement.{statement}
+use Rattle.walks.proofs.judge_here.Tie as tie
+
+is-closed-requires : tie.Need-is-closed-requires
+is-closed-requires c κs = search needs
+
+fine-requires : tie.Need-fine-requires
+fine-requires c κs = search needs
+
+unless-requires : tie.Need-unless-requires
+unless-requires c κs = search needs
+
+returns : tie.Need-returns
+unfolding checksAt
+returns c = let a = c .before .before .before .before .before .args in rw (eq-eqb (a .st .at) (a .end) (c .before .before .before .if1 .taken)) (cc)
+
+is-framed-requires : tie.Need-is-framed-requires
+is-framed-requires c κs = search needs
+
+field8-requires : tie.Need-field8-requires
+field8-requires c κs = search needs
+
+-- what both ways to judge a section ask, from its framing
+asked : (c : tie.After-field8) → let s = c .before .before .before .before .before in
+    let at = s .args .st .at in
+    (at + lengthAt (now (s .args .s)) at ≤ length (now (s .args .s))) × (c .field8 .result ≡ 7 → pointsAt (now (s .args .s)) (s .args .st .section3) ≤ 2097152)
+unfolding numberAt
+asked c = let s = c .before .before .before .before .before in
+    let a = s .args in
+    let fr = framed-is (now (a .s)) (a .end) (contextIn (a .st)) (a .st .at) (sym (c .before .before .is-framed .ensures) ∙ c .before .if2 .taken) in
+    let reach = fr .reach in
+    let inside = s .pre .end-in in
+    (omega arith, λ (e : c .field8 .result ≡ 7). s .pre .points-in (past-three (a .st .previous) _ (fr .allowed) (omega (arith, sym (c .field8 .ensures) ∙ e))))
+
+judge7-requires : tie.Need-judge7-requires
+judge7-requires c κs = let w = asked (c .before) in
+    (w .0, w .1 (c .if3 .taken))
+
+-- a framed section 7 has its own checks alone: there is room, since no cut begins
+seven : (s : List ℕ) (end : ℕ) (x : Context) (at : ℕ) → (at ≡ end → ⊥) → framed s end x at ≡ true → numberAt s at ≡ 7
+    → firstFault (checks7 s x at) ≡ firstFault (checksAt ownChecks s end x at)
+unfolding checksAt roomForCut sectionChecks ownChecks
+seven s end x at h f n = rw (ne-eqb at end h, f, n, and-false)
+
+returns-2 : tie.Need-returns-2
+unfolding numberAt
+returns-2 c = let a = c .before .before .before .before .before .before .before .args in
+    c .judge7 .ensures ∙ seven (now (a .s)) (a .end) (contextIn (a .st)) (a .st .at) (c .before .before .before .before .before .if1 .left) (sym (c .before .before .before .before .is-framed .ensures) ∙ c .before .before .before .if2 .taken) (sym (c .before .before .field8 .ensures) ∙ c .before .if3 .taken)
+
+has-room-requires : tie.Need-has-room-requires
+has-room-requires c κs = search needs
+
+judge-requires : tie.Need-judge-requires
+judge-requires c κs = asked (c .before .before)
+
+unless-requires-2 : tie.Need-unless-requires-2
+unless-requires-2 c κs = search needs
+
+returns-3 : tie.Need-returns-3
+unfolding checksAt numberAt
+returns-3 c = let a = c .before .before .before .before .before .before .before .before .before .args in
+    rw (ne-eqb (a .st .at) (a .end) (c .before .before .before .before .before .before .before .if1 .left), sym (c .before .before .before .before .before .before .is-framed .ensures) ∙ c .before .before .before .before .before .if2 .taken) (cc)
+
+returns-4 : tie.Need-returns-4
+unfolding checksAt
+returns-4 c = let a = c .before .before .before .before .args in
+    rw (ne-eqb (a .st .at) (a .end) (c .before .before .if1 .left), sym (c .before .is-framed .ensures) ∙ c .if2 .left)
+
+pub judge-here-spec : {M : Type 1} → statement M
+judge-here-spec =
+    tie.close
+    (tie.spec
+    is-closed-requires
+    fine-requires
+    unless-requires
+    returns
+    is-framed-requires
+    field8-requires
+    judge7-requires
+    returns-2
+    has-room-requires
+    judge-requires
+    unless-requires-2
+    returns-3
+    returns-4)

@@ -1,0 +1,76 @@
+-- What the checks come to decides the step (Stepping.antt).
+use Rattle.walks.proofs.Stepping.{step-refused, step-done, step-next}
+use Rattle.sections.proofs.Faults.{fine-framed}
+use Rattle.walks.specs.declared.Step.the-variants.{Next}
+use Rattle.sections.specs.Places.{contextIn}
+use Rattle.walks.specs.Walk.{past}
+use Rattle.layout.specs.Checks.{ownChecks}
+use Rattle.rules.specs.Fields.{lengthAt, numberAt}
+use denote.Ref.{now}
+use native.Mathlib.Omega.{arith}
+use Prim.Native.Nat.{_+_, _≤_}
+use mathlib.Core.Path.{sym, _∙_, ap}
+use borrow.Author.Needs.{needs}
+use Rattle.walks.proofs.one_step.Statement.{statement}
+use Rattle.walks.proofs.one_step.Tie as tie
+
+judge-here-requires : tie.Need-judge-here-requires
+judge-here-requires c κs = search needs
+
+enum-known-refusal : tie.Need-enum-known-refusal
+enum-known-refusal c = search needs
+
+enum-told : tie.Need-enum-told
+enum-told c = search needs
+
+returns : tie.Need-returns
+returns c = let a = c .before .before .before .before .before .args in
+    sym (step-done ownChecks (now (a .s)) (a .end) (a .st) (sym (c .before .before .before .judge-here .ensures) ∙ c .before .enum-told .given .1) (c .if1 .taken))
+
+field8-requires : tie.Need-field8-requires
+field8-requires c κs = search needs
+
+field32-requires : tie.Need-field32-requires
+field32-requires c κs = search needs
+
+place-requires : tie.Need-place-requires
+place-requires c κs = search needs
+
+passed-requires : tie.Need-passed-requires
+unfolding lengthAt
+passed-requires c κs = let a = c .before .before .before .before .before .before .before .before .args in
+    let s = now (a .s) in
+    let fr = fine-framed ownChecks s (a .end) (contextIn (a .st)) (a .st .at) (c .before .before .before .if1 .left) (sym (c .before .before .before .before .before .before .judge-here .ensures) ∙ c .before .before .before .before .enum-told .given .1) in
+    let reach : a .st .at + lengthAt s (a .st .at) ≤ a .end = fr .reach in
+    let inside = c .before .before .before .before .before .before .before .before .pre .end-in in
+    let few = c .before .before .before .before .before .before .before .before .pre .few in
+    let len = c .place .ensures ∙ c .before .field32 .ensures in
+    (omega arith, few)
+
+returns-2 : tie.Need-returns-2
+returns-2 c = let a = c .before .before .before .before .before .args in
+    sym (step-refused ownChecks (now (a .s)) (a .end) (a .st) _ (sym (c .before .before .before .judge-here .ensures) ∙ c .before .refusal .given .1))
+
+returns-3 : tie.Need-returns-3
+unfolding lengthAt numberAt
+returns-3 c = let a = c .before .before .before .before .before .before .before .before .before .args in
+    let s = now (a .s) in
+    let n = c .before .before .before .field8 .ensures in
+    let len = c .before .place .ensures ∙ c .before .before .field32 .ensures in
+    ap Next (c .passed .ensures ∙ (λ i. past (a .st) (n i) (len i)))
+    ∙ sym (step-next ownChecks s (a .end) (a .st) (sym (c .before .before .before .before .before .before .before .judge-here .ensures) ∙ c .before .before .before .before .before .enum-told .given .1) (c .before .before .before .before .if1 .left))
+
+pub one-step-spec : {M : Type 1} → statement M
+one-step-spec =
+    tie.close
+    (tie.spec
+    judge-here-requires
+    enum-known-refusal
+    enum-told
+    returns
+    field8-requires
+    field32-requires
+    place-requires
+    passed-requires
+    returns-2
+    returns-3)

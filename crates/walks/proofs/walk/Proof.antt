@@ -1,0 +1,42 @@
+-- Size, section 0, then the sections: the three ways of `verdict`.
+use Rattle.sections.specs.Verdict.{sized, verdictBy, answerFor}
+use mathlib.Core.Bool.{and-false}
+use borrow.Author.Tests.{lt-leb, le-leb}
+use lib.ListN.{length}
+use denote.Ref.{now}
+use mathlib.Core.Path.{sym, _∙_}
+use borrow.Author.Needs.{needs}
+use Rattle.walks.proofs.walk.Statement.{statement}
+use Rattle.walks.proofs.walk.Tie as tie
+
+returns : tie.Need-returns
+unfolding verdictBy sized answerFor
+returns c = let n = length (now (c .before .before .args .s)) in rw (lt-leb 20 n (c .if1 .taken))
+
+returns-2 : tie.Need-returns-2
+unfolding verdictBy sized answerFor
+returns-2 c = let n = length (now (c .before .before .before .args .s)) in rw (lt-leb n 8388608 (c .if2 .taken), and-false)
+
+fields0-requires : tie.Need-fields0-requires
+fields0-requires c κs = search needs
+
+sub-walk-to : tie.Need-sub-walk-to
+sub-walk-to c = search needs
+
+walk-to-requires : tie.Need-walk-to-requires
+walk-to-requires c κs = search needs
+
+returns-3 : tie.Need-returns-3
+unfolding verdictBy sized
+returns-3 c = let n = length (now (c .before .before .before .before .before .before .args .s)) in
+    rw (le-leb 20 n (c .before .before .before .before .if1 .left), le-leb n 8388608 (c .before .before .before .if2 .left), sym (c .before .before .fields0 .ensures) ∙ c .before .if3 .taken) (c .walk-to .ensures)
+
+returns-4 : tie.Need-returns-4
+unfolding verdictBy sized answerFor
+returns-4 c = let n = length (now (c .before .before .before .before .before .args .s)) in
+    rw (le-leb 20 n (c .before .before .before .if1 .left), le-leb n 8388608 (c .before .before .if2 .left), sym (c .before .fields0 .ensures) ∙ c .if3 .left)
+
+pub walk-spec : {M : Type 1} → statement M
+walk-spec =
+    tie.close
+    (tie.spec returns returns-2 fields0-requires sub-walk-to walk-to-requires returns-3 returns-4)

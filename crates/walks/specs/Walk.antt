@@ -1,0 +1,51 @@
+-- The walk's own state, for the contracts of its functions. No part of what a reader must believe: `walk` promises `verdict`.
+use Prim.Native.Nat.{ℕ, _+_, _≤_}
+use mathlib.Core.List.{List}
+use mathlib.Core.Bool.{cond}
+use lib.ListN.{length}
+use lib.Dec.{eqb}
+use Rattle.rules.specs.Fields.{lengthAt, numberAt, pointsAt}
+use Rattle.sections.specs.Checks.{Own, checksAt}
+use Rattle.sections.specs.Verdict.{firstFault}
+use Rattle.sections.specs.Places.{firstIn, contextIn}
+use Rattle.sections.specs.declared.Cut.{Cut}
+use Rattle.sections.specs.declared.State.{State}
+use Rattle.sections.specs.declared.Judged.{Judged}
+use Rattle.sections.specs.declared.Judged.the-variants.{Fine, Wrong}
+use Rattle.walks.specs.declared.Step.{Step}
+use Rattle.walks.specs.declared.Step.the-variants.{Next, Done, Refused}
+
+-- past a section of number n and length len
+unfoldable pub past : State → ℕ → ℕ → State
+past st n len =
+    record {
+      at = st .at + len;
+      previous = n;
+      cuts = cond (eqb n 7) (st .cuts + 1) (st .cuts);
+      first = cond (eqb n 4) (firstIn st) (st .first);
+      section3 = cond (eqb n 3) (st .at) (st .section3);
+      section4 = cond (eqb n 4) (st .at) (st .section4);
+      section5 = cond (eqb n 5) (st .at) (st .section5);
+    }
+
+-- the cut that a section 7 at the cursor ends
+abbrev pub cutEnded : State → Cut
+cutEnded st = record { section3 = st .section3; section4 = st .section4; section5 = st .section5; section7 = st .at }
+
+-- the chosen cut, past a section of number n
+abbrev pub chosenAfter : ℕ → State → ℕ → Cut → Cut
+chosenAfter want st n chosen = cond (eqb n 7) (cond (eqb (st .cuts) want) (cutEnded st) chosen) chosen
+
+-- the end lies in the file; past a section 3 there are no more bins than run reading takes; the count of cuts stays small
+pub record Sound (s : List ℕ) (end : ℕ) (st : State) : Type 0 where
+  pub end-in : end ≤ length s
+  pub points-in : 3 ≤ st .previous → pointsAt s (st .section3) ≤ 2097152
+  pub few : st .cuts ≤ st .at
+
+abbrev pub stepFrom : List ℕ → ℕ → State → Judged → Step
+stepFrom s end st Fine = cond (eqb (st .at) end) Done (Next (past st (numberAt s (st .at)) (lengthAt s (st .at))))
+stepFrom s end st (Wrong r) = Refused r
+
+-- one step of the walk, by a format's own checks
+unfoldable pub stepOf : Own → List ℕ → ℕ → State → Step
+stepOf own s end st = stepFrom s end st (firstFault (checksAt own s end (contextIn st) (st .at)))

@@ -1,0 +1,261 @@
+// The walk over the sections of a file, which answers the verdict on any octets: accepted, with the number of cuts and the places of one cut's sections;
+// or the refusal. Below it stand `sections` (what every file has) and `layout` (run-length packed files); above it `polar` and `listing`, the calls.
+use sections::Cut;
+use sections::FileRefusal;
+use sections::Found;
+use sections::Judged;
+use sections::State;
+use sections::Walked;
+ghost use mathlib.Core.Path.{_≡_};
+ghost use mathlib.Core.List.{[]};
+ghost use Prim.Native.Nat.{_+_, _^_, _≤_, _<_};
+ghost use lib.ListN.{length};
+ghost use lib.Dec.{leb};
+ghost use Rattle.rules.specs.Fields.{lengthAt, pointsAt};
+ghost use Rattle.sections.specs.Checks.{follows, framed, roomForCut, closes, checks1, checks6, sectionChecks, checksAt};
+ghost use Rattle.sections.specs.Verdict.{firstFault, sections, answerFor};
+ghost use Rattle.sections.specs.Places.{contextIn};
+ghost use Rattle.layout.specs.Checks.{ownChecks};
+ghost use Rattle.layout.specs.Verdict.{verdict};
+ghost use Rattle.walks.specs.Walk.{past, cutEnded, chosenAfter, Sound, stepOf};
+
+enum Step {
+    Next(State),
+    Done,
+    Refused(FileRefusal),
+}
+
+// Whether n octets from `at` on end at `end` or before.
+fn ends_by(at: usize, n: usize, end: usize) -> bool
+    ensures { λ r. ⌜ r ≡ leb (at + n) end ⌝ }
+{
+    if end < at { false } else { n <= end - at }
+}
+
+// The sections that every format has.
+
+fn judge1(s: &[u8], st: State) -> Judged
+    ensures { λ r. ⌜ r ≡ firstFault (checks1 (now (s .entry)) (st .at)) ⌝ }
+{
+    let at = st.at;
+    let len = rules::field32(s, at, 1);
+    sections::unless(
+        len == 21,
+        FileRefusal::Length(at),
+        sections::unless(
+            rules::fields1(s, at),
+            FileRefusal::Field(at),
+            sections::fine(),
+        ),
+    )
+}
+
+fn judge6(s: &[u8], st: State) -> Judged
+    ensures { λ r. ⌜ r ≡ firstFault (checks6 (now (s .entry)) (st .at)) ⌝ }
+{
+    let at = st.at;
+    let len = rules::field32(s, at, 1);
+    sections::unless(
+        len == 6,
+        FileRefusal::Length(at),
+        sections::unless(
+            rules::fields6(s, at),
+            FileRefusal::Field(at),
+            sections::fine(),
+        ),
+    )
+}
+
+// The order of sections.
+fn may_follow(p: u8, n: u8) -> bool
+    ensures { λ r. ⌜ r ≡ follows p n ⌝ }
+{
+    ((p == 0) & (n == 1))
+        | ((p == 1) & (n == 3))
+        | ((p == 3) & (n == 4))
+        | ((p == 4) & (n == 5))
+        | ((p == 5) & (n == 6))
+        | ((p == 6) & (n == 7))
+        | ((p == 7) & ((n == 3) | (n == 4)))
+}
+
+fn is_framed(s: &[u8], end: usize, st: State) -> bool
+    ensures { λ r. ⌜ r ≡ framed (now (s .entry)) end (contextIn st) (st .at) ⌝ }
+{
+    let at = st.at;
+    let len = sections::place(rules::field32(s, at, 1));
+    let n = rules::field8(s, at, 5);
+    ends_by(at, 5, end) & ((5 <= len) & (ends_by(at, len, end) & may_follow(st.previous, n)))
+}
+
+fn has_room(s: &[u8], st: State) -> bool
+    ensures { λ r. ⌜ r ≡ roomForCut (now (s .entry)) (contextIn st) (st .at) ⌝ }
+{
+    let n = rules::field8(s, st.at, 5);
+    !((64 <= st.cuts) & ((n == 3) | (n == 4)))
+}
+
+// The checks of the section's own kind: 1 and 6 are every format's.
+fn judge(s: &[u8], st: State, n: u8) -> Judged
+    requires { ⌜ st .at + lengthAt (now s) (st .at) ≤ length (now s) ⌝ }
+    requires { ⌜ (n ≡ 7 → pointsAt (now s) (st .section3) ≤ 2097152) ⌝ }
+    ensures { λ r. ⌜ r ≡ firstFault (sectionChecks ownChecks (now (s .entry)) (contextIn st) (st .at) n) ⌝ }
+{
+    if n == 1 {
+        return judge1(s, st);
+    }
+    if n == 6 {
+        return judge6(s, st);
+    }
+    layout::judge(s, st, n)
+}
+
+// Whether `7777` stands at the cursor, after a 7.
+fn is_closed(s: &[u8], st: State) -> bool
+    ensures { λ r. ⌜ r ≡ closes (now (s .entry)) (contextIn st) (st .at) ⌝ }
+{
+    let at = st.at;
+    (st.previous == 7) & rules::fields8(s, at)
+}
+
+// All the checks at the cursor, in order: 3, 9, then the section's own. No cut begins with a section 7, so 9 is not asked there and it goes straight
+// to its checks: the compiler then makes a better loop of the scan, where nearly all the time goes.
+fn judge_here(s: &[u8], end: usize, st: State) -> Judged
+    requires { ⌜ Sound (now s) end st ⌝ }
+    ensures { λ r. ⌜ r ≡ firstFault (checksAt ownChecks (now (s .entry)) end (contextIn st) (st .at)) ⌝ }
+{
+    let at = st.at;
+    if at == end {
+        return sections::unless(is_closed(s, st), FileRefusal::Frame(at), sections::fine());
+    }
+    if is_framed(s, end, st) {
+        let n = rules::field8(s, at, 5);
+        if n == 7 {
+            return layout::judge7(s, st);
+        }
+        return sections::unless(has_room(s, st), FileRefusal::CutCount(at), judge(s, st, n));
+    }
+    Judged::Wrong(FileRefusal::Frame(at))
+}
+
+fn passed(st: State, n: u8, len: usize) -> State
+    requires { ⌜ (st .at + len < 2 ^ 63) × (st .cuts ≤ st .at) ⌝ }
+    ensures { λ r. ⌜ r ≡ past st n len ⌝ }
+{
+    let at = st.at;
+    let cuts = sections::pick(n == 7, st.cuts + 1, st.cuts);
+    let first = sections::pick(n == 4, sections::first_in(st), st.first);
+    let section3 = sections::pick(n == 3, at, st.section3);
+    let section4 = sections::pick(n == 4, at, st.section4);
+    let section5 = sections::pick(n == 5, at, st.section5);
+    State {
+        at: at + len,
+        previous: n,
+        cuts,
+        first,
+        section3,
+        section4,
+        section5,
+    }
+}
+
+// One step of the walk: the checks at the cursor, and past the section where they hold.
+fn one_step(s: &[u8], end: usize, st: State) -> Step
+    requires { ⌜ Sound (now s) end st ⌝ }
+    ensures { λ r. ⌜ r ≡ stepOf ownChecks (now (s .entry)) end st ⌝ }
+{
+    let at = st.at;
+    match judge_here(s, end, st) {
+        Judged::Wrong(refusal) => Step::Refused(refusal),
+        Judged::Fine => {
+            if at == end {
+                return Step::Done;
+            }
+            Step::Next(passed(
+                st,
+                rules::field8(s, at, 5),
+                sections::place(rules::field32(s, at, 1)),
+            ))
+        }
+    }
+}
+
+fn cut_ended(st: State) -> Cut
+    ensures { λ r. ⌜ r ≡ cutEnded st ⌝ }
+{
+    Cut {
+        section3: st.section3,
+        section4: st.section4,
+        section5: st.section5,
+        section7: st.at,
+    }
+}
+
+// The chosen cut, past a section of number n.
+fn chosen_after(want: usize, st: State, n: u8, chosen: Cut) -> Cut
+    ensures { λ r. ⌜ r ≡ chosenAfter want st n chosen ⌝ }
+{
+    if n != 7 {
+        return chosen;
+    }
+    if st.cuts == want {
+        return cut_ended(st);
+    }
+    chosen
+}
+
+// Section after section up to `end`, from section 1 on.
+fn walk_to(s: &[u8], end: usize, want: usize) -> Walked
+    requires { ⌜ (16 ≤ end) × (end + 4 ≤ length (now s)) ⌝ }
+    ensures { λ r. ⌜ r ≡ answerFor want (sections ownChecks (length (now (s .entry))) (now (s .entry)) end [] 16) ⌝ }
+{
+    let mut st = State {
+        at: 16,
+        previous: 0,
+        cuts: 0,
+        first: 0,
+        section3: 0,
+        section4: 0,
+        section5: 0,
+    };
+    let mut chosen = Cut {
+        section3: 0,
+        section4: 0,
+        section5: 0,
+        section7: 0,
+    };
+    loop {
+        match one_step(s, end, st) {
+            Step::Done => {
+                return Walked::Whole(Found {
+                    cuts: st.cuts,
+                    cut: chosen,
+                });
+            }
+            Step::Refused(refusal) => {
+                return Walked::Rejected(refusal);
+            }
+            Step::Next(next) => {
+                chosen = chosen_after(want, st, next.previous, chosen);
+                st = next;
+            }
+        }
+    }
+}
+
+// The verdict on any octets, with the number of cuts and the places of cut `want`.
+pub fn walk(s: &[u8], want: usize) -> Walked
+    ensures { λ r. ⌜ r ≡ answerFor want (verdict (now (s .entry))) ⌝ }
+{
+    let n = s.len();
+    if n < 20 {
+        return Walked::Rejected(FileRefusal::FileSize);
+    }
+    if 8388608 < n {
+        return Walked::Rejected(FileRefusal::FileSize);
+    }
+    if rules::fields0(s) {
+        return walk_to(s, n - 4, want);
+    }
+    Walked::Rejected(FileRefusal::Section0)
+}
