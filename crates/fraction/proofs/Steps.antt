@@ -16,6 +16,12 @@ use Rattle.fraction.specs.Near.{dist, Near}
 use Rattle.fraction.proofs.Round.{dist-scale, round-near}
 use Rattle.fraction.proofs.Quotient.{exact-near, round-zero, unscaled, zero-fits, div-at, ofInt-val, plain}
 
+-- ---- a whole number, as a fraction of any denominator
+pub over : (x : Float) (s : Bool) (n c : ℕ) → HasValue x s n 1 → HasValue x s (n * c) c
+over nan s n c v = v
+over (inf t) s n c v = v
+over (fin t m e) s n c v = (v .0, ap (λ (k : ℕ). k * c) (sym (mul-one (m * up e)) ∙ v .1) ∙ mul-right-comm n (down e) c)
+
 -- ---- near nothing is nothing
 pub zero-value : (p : ℕ) (s : Bool) (x : Float) (d : ℕ) → 0 < d → Near p s x 0 d → HasValue x s 0 1
 zero-value p s nan d D h = h
@@ -144,14 +150,8 @@ div-near f s (fin t m e) A C D CP DP L N O h = go (eq-zero-or-pos A)
         let w : HasValue (round f s xn (xd * D)) s 0 1 =
         subst (λ (y : ℕ). HasValue (round f s y (xd * D)) s 0 1) (sym n) (unscaled (round f s 0 (xd * D)) s (xd * D) (mul-pos X DP) (round-zero f s (xd * D) (mul-pos X DP))) in
         subst (λ (q : Float). Near (p - 2) s q A (C * D)) (sym is)
-        (subst (λ (a : ℕ). Near (p - 2) s (round f s xn (xd * D)) a (C * D)) (sym z) (exact-near (p - 2) s (round f s xn (xd * D)) 0 (C * D) (mul-pos CP DP) (rescaled (round f s xn (xd * D)) w)))
-      where
-        rescaled : (y : Float) → HasValue y s 0 1 → HasValue y s 0 (C * D)
-        rescaled nan v = v
-        rescaled (inf u) v = v
-        rescaled (fin u n g) v =
-            let z : n * up g ≡ 0 = sym (mul-one (n * up g)) ∙ v .1 ∙ zero-mul (down g) in
-            (v .0, ap (λ (y : ℕ). y * (C * D)) z ∙ zero-mul (C * D) ∙ sym (zero-mul (down g)))
+        (subst (λ (a : ℕ). Near (p - 2) s (round f s xn (xd * D)) a (C * D)) (sym z) (exact-near (p - 2) s (round f s xn (xd * D)) 0 (C * D) (mul-pos CP DP)
+        (subst (λ (a : ℕ). HasValue (round f s xn (xd * D)) s a (C * D)) (zero-mul (C * D)) (over (round f s xn (xd * D)) s 0 (C * D) w))))
     go (inr a) =
         let low-side : A * xd ≤ 2 * (xn * C) = at-least (xn * C) (A * xd) (2 ^ p) (two-le-pow p (two f)) (h .1) in
         let high-side : xn * C ≤ 2 * (A * xd) = at-most (xn * C) (A * xd) (2 ^ p) (two-le-pow p (two f)) (h .1) in
