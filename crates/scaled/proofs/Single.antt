@@ -13,7 +13,7 @@ use lib.Ieee.Bits.{nanBits-is, ofBits-fits}
 use lib.Ieee.Exact.{HasValue, odd-sign}
 use Rattle.scaled.specs.Scaled.{negativeSingle, exponentOf, mantissaOf, sizeOf, finiteSingle}
 
--- ---- the value
+-- ---- the value, from the fields: sign s, exponent x, mantissa m
 fields-value : (s : Bool) (x m : ℕ) → eqb x 255 ≡ false → HasValue (ofFields binary32 s x m) s (cond (eqb x 0) m ((8388608 + m) * 2 ^ (x - 1))) (2 ^ 149)
 unfolding ofFields
 fields-value s zero m h = subst (λ (n : ℕ). HasValue (odd 24 s m 0 149) s n (2 ^ 149)) (mul-one m) (odd-sign 24 s m 0 149)
