@@ -18,11 +18,11 @@ use lib.Ieee.Scale.{grid, overflow, normal-of-fraction}
 use Rattle.fraction.specs.Near.{dist, Near}
 
 -- ---- |a - b|, scaled
+pub sub-scale : (a b c : ℕ) → a * c - b * c ≡ (a - b) * c
+sub-scale a b c = ap (λ (x : ℕ). x - b * c) (mul-comm a c) ∙ ap (λ (x : ℕ). c * a - x) (mul-comm b c) ∙ sym (mul-sub c a b) ∙ mul-comm c (a - b)
+
 pub dist-scale : (a b c : ℕ) → dist (a * c) (b * c) ≡ dist a b * c
-dist-scale a b c = ap (λ (x : ℕ). x + (b * c - a * c)) (side a b) ∙ ap (λ (x : ℕ). (a - b) * c + x) (side b a) ∙ sym (add-mul (a - b) (b - a) c)
-  where
-    side : (x y : ℕ) → x * c - y * c ≡ (x - y) * c
-    side x y = ap (λ (z : ℕ). z - y * c) (mul-comm x c) ∙ ap (λ (z : ℕ). c * x - z) (mul-comm y c) ∙ sym (mul-sub c x y) ∙ mul-comm c (x - y)
+dist-scale a b c = ap (λ (x : ℕ). x + (b * c - a * c)) (sub-scale a b c) ∙ ap (λ (x : ℕ). (a - b) * c + x) (sub-scale b a c) ∙ sym (add-mul (a - b) (b - a) c)
 
 -- ---- a fraction n / u rounded to a whole number is off by half a unit at most
 abbrev Cmp : Ordering → ℕ → ℕ → Type 0

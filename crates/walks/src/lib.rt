@@ -39,15 +39,9 @@ fn judge1(s: &[u8], st: State) -> Judged
 {
     let at = st.at;
     let len = rules::field32(s, at, 1);
-    sections::unless(
-        len == 21,
-        FileRefusal::Length(at),
-        sections::unless(
-            rules::fields1(s, at),
-            FileRefusal::Field(at),
-            sections::fine(),
-        ),
-    )
+    let fields1 = rules::fields1(s, at);
+    let past = sections::unless(fields1, FileRefusal::Field(at), sections::fine());
+    sections::unless(len == 21, FileRefusal::Length(at), past)
 }
 
 fn judge6(s: &[u8], st: State) -> Judged
@@ -55,15 +49,9 @@ fn judge6(s: &[u8], st: State) -> Judged
 {
     let at = st.at;
     let len = rules::field32(s, at, 1);
-    sections::unless(
-        len == 6,
-        FileRefusal::Length(at),
-        sections::unless(
-            rules::fields6(s, at),
-            FileRefusal::Field(at),
-            sections::fine(),
-        ),
-    )
+    let fields6 = rules::fields6(s, at);
+    let past = sections::unless(fields6, FileRefusal::Field(at), sections::fine());
+    sections::unless(len == 6, FileRefusal::Length(at), past)
 }
 
 // The order of sections.
