@@ -1,6 +1,6 @@
 //! Files with the verdict that document 01 gives each, said by hand: every named field one below, at and one past each end
 //! of its range, every length one off, the order of sections, the order of checks, the limits.
-use crate::layout::MOST_CUTS;
+use crate::frame::{GREATEST_FILE, MOST_CUTS};
 use crate::maker::{assemble, set_total, CutPlan, Plan, Section};
 use crate::published::Product;
 
@@ -338,8 +338,8 @@ impl Cases {
             Plan::new(Product::Velocity, vec![CutPlan::of_data(2, 1, 1, data)]).file()
         };
         let least = file_of(0).len();
-        self.add("8,388,608 octets", file_of(crate::layout::GREATEST_FILE - least), None);
-        self.add("8,388,609 octets", file_of(crate::layout::GREATEST_FILE - least + 1), Some((1, 0)));
+        self.add("8,388,608 octets", file_of(GREATEST_FILE - least), None);
+        self.add("8,388,609 octets", file_of(GREATEST_FILE - least + 1), Some((1, 0)));
     }
 }
 

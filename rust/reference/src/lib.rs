@@ -10,6 +10,7 @@
 //! * [`numbers`]: numbers that look random and are the same in every run
 pub mod calls;
 pub mod cases;
+pub mod frame;
 pub mod layout;
 pub mod lister;
 pub mod maker;
