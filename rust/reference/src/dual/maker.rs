@@ -32,12 +32,7 @@ impl Flags {
 
     /// Every combination of the four.
     pub fn every() -> impl Iterator<Item = Flags> {
-        (0..16u8).map(|bits| Flags {
-            azimuth: bits & 1 != 0,
-            elevation: bits & 2 != 0,
-            frequency: bits & 4 != 0,
-            time: bits & 8 != 0,
-        })
+        (0..16u8).map(|bits| Flags { azimuth: bits & 1 != 0, elevation: bits & 2 != 0, frequency: bits & 4 != 0, time: bits & 8 != 0 })
     }
 }
 

@@ -26,7 +26,7 @@ impl Packing {
         octets.iter().any(|octet| *octet != 0xFF).then(|| unsigned(octets))
     }
 
-    /// The least number of cells' bits that is no Z: all ones.
+    /// The cell that is no Z.
     pub fn all_ones(&self) -> u16 {
         u16::MAX >> (16 - self.width)
     }
