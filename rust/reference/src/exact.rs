@@ -216,7 +216,7 @@ mod tests {
         for k in [1, 31, 32, 33, 64, 200, 1087] {
             let power = one.shifted(k);
             let ones = power.minus(&one);
-            assert!(ones < power && power > ones && ones.plus(&one) == power);
+            assert!(ones < power && ones.plus(&one) == power);
             for m in [1, 2, 9999, u32::MAX - 1] {
                 let expected = power.times(m).plus(&power).minus(&Natural::from(u64::from(m) + 1));
                 assert_eq!(ones.times(m + 1), expected, "{k} {m}");
