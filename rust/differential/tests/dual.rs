@@ -105,7 +105,7 @@ fn outside(compared: &Compared, cuts: usize) {
 #[test]
 fn sound_files_of_every_shape() {
     let mut n = Numbers::new(103);
-    for round in 0..3000 {
+    for round in 0..5000 {
         let (bins, rays) = n.one_of(&[(1, 1), (3, 2), (20, 6), (1, 30), (30, 1)]);
         let most_cuts = if round % 50 == 0 { 64 } else { 4 };
         let file = random_plan(most_cuts, bins, rays, &mut n).file();
@@ -199,7 +199,7 @@ fn every_octet_changed() {
 #[test]
 fn random_spoilings() {
     let mut n = Numbers::new(106);
-    for _ in 0..800 {
+    for _ in 0..1500 {
         let plan = random_plan(3, 6, 4, &mut n);
         let (sections, sound) = (plan.sections(), plan.file());
         for _ in 0..60 {
