@@ -1,7 +1,8 @@
 //! Dual-polarisation files: a second format, with its own files and cuts.
 //!
 //! A value is a 64-bit float in the unit of the file's [`Parameter`], within one part in 2^51 of the exact value. A cell
-//! without a value is `None`, never 0.
+//! without a value is `None`, never 0. Each value is a call of its own, and every call checks all the file's sections again:
+//! its time grows with the number of cuts.
 //!
 //! ```
 //! let octets = include_bytes!("../../../samples/dual.bin");

@@ -1,5 +1,5 @@
 //! What the two formats share: sections 0, 1, 6 and 8, how a section stands in a file, their order, the number of cuts,
-//! and section 3 up to Dstart. Each format's own rules are a [`Format`]'s.
+//! and section 3 up to Dstart. Each format's own rules are a `Format`'s.
 use crate::octets::{magnitude, signed, unsigned};
 use crate::{refused, refused_at, Refusal};
 use std::ops::RangeInclusive;
