@@ -80,12 +80,10 @@ impl<'a, W: Write> Report<'a, W> {
         match self.asked.form {
             Form::Text => writeln!(self.out, "{path}: {format} format, {product}, {time}, site {site}, {}", cuts(file.cut_count())),
             Form::Csv => Ok(()),
-            Form::Json => write!(
-                self.out,
-                "\n{{\"file\":{},\"format\":\"{format}\",\"product\":\"{product}\",\"unit\":\"{}\",\"time\":\"{time}\",\"site\":{site},\"cuts\":[",
-                json_string(path),
-                product.unit()
-            ),
+            Form::Json => {
+                write!(self.out, "\n{{\"file\":{},\"format\":\"{format}\",\"product\":\"{product}\",", json_string(path))?;
+                write!(self.out, "\"unit\":\"{}\",\"time\":\"{time}\",\"site\":{site},\"cuts\":[", product.unit())
+            }
         }
     }
 

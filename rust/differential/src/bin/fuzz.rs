@@ -120,7 +120,7 @@ fn dual_file(n: &mut Numbers) -> Vec<u8> {
     spoiled_or_sound(&dual_shapes::random_plan(cuts, bins, rays, n).sections(), n)
 }
 
-/// Every call of one format on a dual-polarisation file, and those of the other format on either.
+/// The dual-polarisation calls on a file of their format, or now and then of the base format, and two of the base format's.
 fn dual_files(n: &mut Numbers) {
     let file = if n.once_in(8) { file(n) } else { dual_file(n) };
     let compared = dual::Compared::new(&file);
