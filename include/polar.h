@@ -1,5 +1,6 @@
 /*
- * polar.h: polar weather-radar files (GRIB2, run-length packed), by proved calls.
+ * polar.h: polar weather-radar files (GRIB2), by proved calls, in two formats: the base format, run-length packed (polar_*),
+ * and the dual-polarisation format, simply packed (polar_dual_*). A file of the one is refused by the other's calls.
  *
  * Any octets may be lent, whole, cut short or spoiled. Every call ends, and gives its answer or one numbered refusal with
  * its place. No call asks anything of its caller beforehand but that the memory it is lent is there, and that what it may
@@ -15,6 +16,7 @@
  *
  * Every call on a file is lent the whole file and makes all its checks itself, in this order: 1, 2, then section by
  * section 3, 9, 4, 5, 6, 7, 12, 8; then 10; then 11. Values are in hundredths: of dBZ for reflectivity, of m/s for velocity.
+ * On a dual-polarisation file the order is 1, 2, then section by section 3, 9, 4, 5, 14, 6; then 10.
  */
 #ifndef POLAR_H
 #define POLAR_H
@@ -39,6 +41,7 @@ extern "C" {
 #define POLAR_ARGUMENT 10u      /* an argument is outside its range */
 #define POLAR_ROOM 11u          /* the lent room is too short */
 #define POLAR_V 12u             /* V is over 253 */
+#define POLAR_UNREAD 14u        /* R infinite or not a number, a width other than 8 or 16, or a scan other than PPI */
 
 #define POLAR_REFLECTIVITY 1u
 #define POLAR_VELOCITY 2u
@@ -132,6 +135,33 @@ uint32_t polar_stretches(const uint8_t *file, size_t len, size_t cut, int32_t t,
 /* The same at the house threshold, POLAR_HOUSE_THRESHOLD. */
 uint32_t polar_house_stretches(const uint8_t *file, size_t len, size_t cut, size_t ray, size_t bin, uint32_t *words,
                                size_t room, uint64_t answer[4]);
+
+/* ---- dual-polarisation files ---- */
+
+/*
+ * Open.
+ * answer: place, parameter number (octet 11 of section 4: 195 is horizontal reflectivity, and so on), year, month, day,
+ * hour, minute, second, site number, number of cuts.
+ */
+uint32_t polar_dual_open(const uint8_t *file, size_t len, uint64_t answer[10]);
+
+/*
+ * Cut: what section 3 says of one cut.
+ * answer: place; Nb, bins on a ray; Nr, rays; latitude and longitude in 10^-6 degrees; Dx, the bins' spacing, and Dstart,
+ * both in 10^-3 m.
+ * Refusal 10: cut.
+ */
+uint32_t polar_dual_cut(const uint8_t *file, size_t len, size_t cut, int64_t answer[7]);
+
+/*
+ * Bin value: sets *value to the value in the parameter's own unit where the bin is measured; where its cell is all ones it
+ * is missing, and *value is unchanged. The value lies within |Y|/2^51 of the exact Y, where Y x 10^D = R + Z x 2^E, and is
+ * 0 where Y is.
+ * answer: place, mark (0 missing, 1 measured).
+ * Refusal 10: cut, ray, bin.
+ */
+uint32_t polar_dual_bin_value(const uint8_t *file, size_t len, size_t cut, size_t ray, size_t bin, double *value,
+                              uint64_t answer[2]);
 
 #ifdef __cplusplus
 }

@@ -4,19 +4,24 @@ use polar::{Kind, HOUSE_THRESHOLD};
 pub const HELP: &str = "\
 blind [OPTION]... FILE...: what a radar saw of each ray, and where it was blind
 
-Lists the stretches of every cut of each FILE (up to 8 MiB; - is standard input): the longest pieces of a ray that are
-missing, under the threshold, or at or over it; then the bins of each kind in all.
+Says of each FILE (up to 8 MiB; - is standard input) which format it has, what it holds, when and where it was made. Of the
+base format (reflectivity, velocity) it lists the stretches of every cut, the longest pieces of a ray that are missing, under
+the threshold, or at or over it; then the bins of each kind in all. Of the dual-polarisation format it counts the missing and
+the measured bins of every cut, with the least and the greatest value.
 
-  --threshold V   in dBZ or m/s, up to two decimals, -327.67 to 327.67 (default 40.00)
-  --kind KIND     list only missing, under or over; may be given more than once
+  --values        list the values of the bins instead of stretches: a line for each ray, nearest first, - where missing
   --cut N         only this cut, counted from 0
   --totals        only the totals
-  --csv           as comma-separated values: the stretches, or with --totals the totals
+  --csv           as comma-separated values: the stretches, with --totals the totals, with --values the bins
   --json          as JSON
-  --svg OUT       also draw the cut (--cut N, else cut 0) as the radar sees it: blind grey, under blue, over red
   --help          this text
 
-Exit status: 0 all listed, 1 a file was refused or could not be read, 2 wrong options.
+For files of the base format alone:
+  --threshold V   in dBZ or m/s, up to two decimals, -327.67 to 327.67 (default 40.00)
+  --kind KIND     list only missing, under or over; may be given more than once
+  --svg OUT       also draw the cut (--cut N, else cut 0) as the radar sees it: blind grey, under blue, over red
+
+Exit status: 0 all listed, 1 a file was refused or could not be read or drawn, 2 wrong options.
 ";
 
 #[derive(Debug, Clone, Copy, PartialEq, Eq)]
@@ -34,8 +39,12 @@ pub struct Arguments {
     pub kinds: Vec<Kind>,
     pub cut: Option<usize>,
     pub totals_only: bool,
+    /// values instead of stretches
+    pub values: bool,
     pub form: Form,
     pub svg: Option<String>,
+    /// those options that were given and that files of the base format alone know
+    pub for_base: Vec<String>,
 }
 
 #[derive(Debug, PartialEq, Eq)]
@@ -60,8 +69,17 @@ fn hundredths(text: &str) -> Option<i32> {
 }
 
 pub fn parse(words: impl Iterator<Item = String>) -> Result<Asked, String> {
-    let mut asked =
-        Arguments { files: vec![], threshold: HOUSE_THRESHOLD, kinds: vec![], cut: None, totals_only: false, form: Form::Text, svg: None };
+    let mut asked = Arguments {
+        files: vec![],
+        threshold: HOUSE_THRESHOLD,
+        kinds: vec![],
+        cut: None,
+        totals_only: false,
+        values: false,
+        form: Form::Text,
+        svg: None,
+        for_base: vec![],
+    };
     let mut words = words;
     let mut options = true;
     while let Some(word) = words.next() {
@@ -76,6 +94,9 @@ pub fn parse(words: impl Iterator<Item = String>) -> Result<Asked, String> {
         let takes_value = matches!(name.as_str(), "--threshold" | "--kind" | "--cut" | "--svg");
         if given.is_some() && !takes_value {
             return Err(format!("{name} takes no value"));
+        }
+        if matches!(name.as_str(), "--threshold" | "--kind" | "--svg") {
+            asked.for_base.push(name.clone());
         }
         let mut value = || given.clone().or_else(|| words.next()).ok_or(format!("{name} wants a value"));
         match name.as_str() {
@@ -97,6 +118,7 @@ pub fn parse(words: impl Iterator<Item = String>) -> Result<Asked, String> {
             }
             "--svg" => asked.svg = Some(value()?),
             "--totals" => asked.totals_only = true,
+            "--values" => asked.values = true,
             "--csv" => asked.form = Form::Csv,
             "--json" => asked.form = Form::Json,
             _ => return Err(format!("{word}: no such option")),
@@ -107,6 +129,12 @@ pub fn parse(words: impl Iterator<Item = String>) -> Result<Asked, String> {
     }
     if asked.svg.is_some() && asked.files.len() > 1 {
         return Err("--svg draws one cut of one file".into());
+    }
+    if asked.values && asked.totals_only {
+        return Err("--totals and --values exclude each other".into());
+    }
+    if asked.values && !asked.kinds.is_empty() {
+        return Err("--kind chooses stretches, and --values lists none".into());
     }
     if asked.kinds.is_empty() {
         asked.kinds = Kind::ALL.to_vec();
@@ -152,5 +180,16 @@ mod tests {
         for wrong in ["", "--json", "--cut x a", "--cut", "--kind clear a", "--loud a", "--json=1 a", "--svg o a b", "--threshold 1000 a"] {
             assert!(parsed(wrong).is_err(), "{wrong}");
         }
+        for wrong in ["--values=1 a", "--values --totals a", "--values --kind missing a"] {
+            assert!(parsed(wrong).is_err(), "{wrong}");
+        }
+    }
+
+    #[test]
+    fn options_for_the_base_format() {
+        let Ok(Asked::List(asked)) = parsed("--values --cut 1 --csv a") else { panic!("sound options") };
+        assert!(asked.values && asked.for_base.is_empty());
+        let Ok(Asked::List(asked)) = parsed("--kind over --svg=o a --threshold 40") else { panic!("sound options") };
+        assert_eq!(asked.for_base, ["--kind", "--svg", "--threshold"]);
     }
 }

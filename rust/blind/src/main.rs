@@ -1,10 +1,12 @@
-//! `blind FILE...`: the stretches of radar files, blind, under a threshold, or at or over it.
+//! `blind FILE...`: the stretches of radar files, blind, under a threshold, or at or over it, or the values of their bins.
 mod arguments;
 mod report;
 mod survey;
 mod svg;
+mod values;
 
-use arguments::{Arguments, Asked};
+use arguments::{Arguments, Asked, Form};
+use polar::{dual, Cut, File, Format};
 use report::Report;
 use std::fs;
 use std::io::{self, BufWriter, ErrorKind, Read, Write};
@@ -24,43 +26,79 @@ fn read(path: &str) -> io::Result<Vec<u8>> {
     Ok(octets)
 }
 
-/// Lists one file. What is wrong with the file is told, and is no error of the output.
+/// A file of the base format and the cuts that are wanted of it.
+fn base_cuts<'a>(octets: &'a [u8], asked: &Arguments) -> Result<(File<'a>, Vec<Cut<'a>>), Problem> {
+    let file = File::open(octets)?;
+    let cuts = match asked.cut {
+        Some(index) => vec![file.cut(index)?],
+        None => file.cuts().collect(),
+    };
+    Ok((file, cuts))
+}
+
+/// A dual-polarisation file and the cuts that are wanted of it, where nothing is asked that such a file has not.
+fn dual_cuts<'a>(octets: &'a [u8], asked: &Arguments) -> Result<(dual::File<'a>, Vec<dual::Cut<'a>>), Problem> {
+    let file = dual::File::open(octets)?;
+    if let Some(option) = asked.for_base.first() {
+        return Err(Problem::ForBase(option.clone()));
+    }
+    if asked.form == Form::Csv && !asked.values && !asked.totals_only {
+        return Err(Problem::NoStretches);
+    }
+    let cuts = match asked.cut {
+        Some(index) => vec![file.cut(index)?],
+        None => file.cuts().collect(),
+    };
+    Ok((file, cuts))
+}
+
+fn draw(cut: Cut, asked: &Arguments) -> Result<(), Problem> {
+    let Some(out) = &asked.svg else { return Ok(()) };
+    let drawing = svg::drawing(&CutSurvey::new(cut, asked.threshold)?);
+    fs::write(out, drawing).map_err(|why| Problem::Undrawn(out.clone(), why))
+}
+
+/// What is wrong with the file is told, and is no error of the output.
+fn list_base(path: &str, octets: &[u8], asked: &Arguments, report: &mut Report<impl Write>) -> io::Result<Result<(), Problem>> {
+    // all cuts that are wanted are there before a word is written
+    let (file, cuts) = match base_cuts(octets, asked) {
+        Ok(found) => found,
+        Err(problem) => return Ok(Err(problem)),
+    };
+    report.file(path, &file)?;
+    for cut in &cuts {
+        match CutSurvey::new(*cut, asked.threshold) {
+            Ok(survey) => report.cut(path, &survey)?,
+            Err(refusal) => return Ok(Err(refusal.into())),
+        }
+    }
+    report.file_end()?;
+    Ok(draw(cuts[0], asked))
+}
+
+fn list_dual(path: &str, octets: &[u8], asked: &Arguments, report: &mut Report<impl Write>) -> io::Result<Result<(), Problem>> {
+    let (file, cuts) = match dual_cuts(octets, asked) {
+        Ok(found) => found,
+        Err(problem) => return Ok(Err(problem)),
+    };
+    report.dual_file(path, &file)?;
+    for cut in &cuts {
+        report.dual_cut(path, cut)?;
+    }
+    report.file_end()?;
+    Ok(Ok(()))
+}
+
+/// Lists one file as one of the format that it claims, so that its refusal is told by that format's rules.
 fn list(path: &str, asked: &Arguments, report: &mut Report<impl Write>) -> io::Result<Result<(), Problem>> {
     let octets = match read(path) {
         Ok(octets) => octets,
         Err(why) => return Ok(Err(Problem::Unread(why))),
     };
-    let file = match polar::File::open(&octets) {
-        Ok(file) => file,
-        Err(refusal) => return Ok(Err(Problem::Refused(refusal))),
-    };
-    // all cuts that are wanted are there before a word is written
-    let cuts: Result<Vec<_>, _> = match asked.cut {
-        Some(index) => file.cut(index).map(|cut| vec![cut]),
-        None => Ok(file.cuts().collect()),
-    };
-    let cuts = match cuts {
-        Ok(cuts) => cuts,
-        Err(refusal) => return Ok(Err(Problem::Refused(refusal))),
-    };
-    report.file(path, &file)?;
-    for cut in &cuts {
-        let survey = match CutSurvey::new(*cut, asked.threshold) {
-            Ok(survey) => survey,
-            Err(refusal) => return Ok(Err(Problem::Refused(refusal))),
-        };
-        report.cut(path, &survey)?;
+    match Format::of(&octets) {
+        Format::Base => list_base(path, &octets, asked, report),
+        Format::Dual => list_dual(path, &octets, asked, report),
     }
-    report.file_end()?;
-    if let Some(out) = &asked.svg {
-        let drawn = CutSurvey::new(cuts[0], asked.threshold).map(|survey| svg::drawing(&survey));
-        match drawn.map(|drawing| fs::write(out, drawing)) {
-            Ok(Ok(())) => (),
-            Ok(Err(why)) => return Ok(Err(Problem::Undrawn(out.clone(), why))),
-            Err(refusal) => return Ok(Err(Problem::Refused(refusal))),
-        }
-    }
-    Ok(Ok(()))
 }
 
 /// Lists every file; answers whether all went well.

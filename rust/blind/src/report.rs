@@ -1,7 +1,11 @@
 //! The listing in its forms: text, comma-separated values, JSON.
+mod dual;
+mod values;
+
 use crate::arguments::{Arguments, Form};
 use crate::survey::{CutSurvey, Hundredths, Problem};
-use polar::{File, Kind, Stretch};
+use crate::values::Values;
+use polar::{File, Format, Kind, Stretch};
 use std::io::{self, Write};
 
 pub struct Report<'a, W> {
@@ -32,17 +36,23 @@ fn json_string(text: &str) -> String {
     format!("\"{}\"", text.chars().map(escaped).collect::<String>())
 }
 
+/// A number of cuts, in words.
+fn cuts(count: usize) -> String {
+    format!("{count} {}", if count == 1 { "cut" } else { "cuts" })
+}
+
 impl<'a, W: Write> Report<'a, W> {
     pub fn new(out: W, asked: &'a Arguments) -> Self {
         Report { out, asked, files_before: false, cuts_before: false }
     }
 
     pub fn begin(&mut self) -> io::Result<()> {
-        match (self.asked.form, self.asked.totals_only) {
-            (Form::Text, _) => Ok(()),
-            (Form::Csv, false) => writeln!(self.out, "file,cut,ray,first,length,kind,azimuth,from_m,to_m"),
-            (Form::Csv, true) => writeln!(self.out, "file,cut,kind,bins,percent"),
-            (Form::Json, _) => write!(self.out, "["),
+        match self.asked.form {
+            Form::Text => Ok(()),
+            Form::Csv if self.asked.values => writeln!(self.out, "file,cut,ray,bin,mark,value"),
+            Form::Csv if self.asked.totals_only => writeln!(self.out, "file,cut,kind,bins,percent"),
+            Form::Csv => writeln!(self.out, "file,cut,ray,first,length,kind,azimuth,from_m,to_m"),
+            Form::Json => write!(self.out, "["),
         }
     }
 
@@ -66,16 +76,14 @@ impl<'a, W: Write> Report<'a, W> {
 
     pub fn file(&mut self, path: &str, file: &File) -> io::Result<()> {
         self.next_file()?;
-        let (product, time, site, cuts) = (file.product(), file.time(), file.site(), file.cut_count());
+        let (format, product, time, site) = (Format::Base, file.product(), file.time(), file.site());
         match self.asked.form {
-            Form::Text => writeln!(self.out, "{path}: {product}, {time}, site {site}, {cuts} {}", if cuts == 1 { "cut" } else { "cuts" }),
+            Form::Text => writeln!(self.out, "{path}: {format} format, {product}, {time}, site {site}, {}", cuts(file.cut_count())),
             Form::Csv => Ok(()),
-            Form::Json => write!(
-                self.out,
-                "\n{{\"file\":{},\"product\":\"{product}\",\"unit\":\"{}\",\"time\":\"{time}\",\"site\":{site},\"cuts\":[",
-                json_string(path),
-                product.unit()
-            ),
+            Form::Json => {
+                write!(self.out, "\n{{\"file\":{},\"format\":\"{format}\",\"product\":\"{product}\",", json_string(path))?;
+                write!(self.out, "\"unit\":\"{}\",\"time\":\"{time}\",\"site\":{site},\"cuts\":[", product.unit())
+            }
         }
     }
 
@@ -88,14 +96,18 @@ impl<'a, W: Write> Report<'a, W> {
 
     /// Why a file was not listed. In the other forms than JSON standard error alone says it.
     pub fn problem(&mut self, path: &str, problem: &Problem) -> io::Result<()> {
-        let (Form::Json, Problem::Refused(_) | Problem::Unread(_)) = (self.asked.form, problem) else { return Ok(()) };
+        // a file that was not drawn was listed all the same
+        if self.asked.form != Form::Json || matches!(problem, Problem::Undrawn(..)) {
+            return Ok(());
+        }
         self.next_file()?;
         let why = match problem {
             Problem::Refused(refusal) => {
                 let meaning = json_string(refusal.reason().meaning());
                 format!("\"refused\":{{\"number\":{},\"place\":{},\"meaning\":{meaning}}}", refusal.number(), refusal.place())
             }
-            other => format!("\"unread\":{}", json_string(&other.to_string())),
+            Problem::Unread(_) => format!("\"unread\":{}", json_string(&problem.to_string())),
+            _ => format!("\"not_listed\":{}", json_string(&problem.to_string())),
         };
         write!(self.out, "\n{{\"file\":{},{why}}}", json_string(path))
     }
@@ -112,7 +124,7 @@ impl<'a, W: Write> Report<'a, W> {
 
     /// The stretches of the kinds asked for.
     fn wanted<'s>(&self, survey: &'s CutSurvey) -> impl Iterator<Item = &'s Stretch> + use<'s, 'a, W> {
-        let kinds = if self.asked.totals_only { &[][..] } else { &self.asked.kinds[..] };
+        let kinds = if self.asked.totals_only || self.asked.values { &[][..] } else { &self.asked.kinds[..] };
         survey.stretches.iter().filter(move |stretch| kinds.contains(&stretch.kind))
     }
 
@@ -127,7 +139,9 @@ impl<'a, W: Write> Report<'a, W> {
             cut.index(),
             Hundredths(survey.threshold)
         )?;
-        if !self.asked.totals_only {
+        if self.asked.values {
+            self.values_as_text(&Values::of_base(cut), unit)?;
+        } else if !self.asked.totals_only {
             writeln!(self.out, "  ray  azimuth  first  bins   from km     to km  kind")?;
         }
         for stretch in self.wanted(survey) {
@@ -143,6 +157,9 @@ impl<'a, W: Write> Report<'a, W> {
 
     fn cut_as_csv(&mut self, path: &str, survey: &CutSurvey) -> io::Result<()> {
         let index = survey.cut.index();
+        if self.asked.values {
+            self.values_as_csv(path, index, &Values::of_base(&survey.cut))?;
+        }
         for stretch in self.wanted(survey) {
             let Stretch { ray, first, length, kind } = *stretch;
             let (from, to) = (survey.distance(first), survey.distance(first + length));
@@ -173,15 +190,25 @@ impl<'a, W: Write> Report<'a, W> {
             Hundredths(cut.start_azimuth().into()),
             f64::from(cut.spacing()) / 1000.0
         )?;
-        write!(self.out, "\"threshold\":{},\"stretches\":[", Hundredths(survey.threshold))?;
+        write!(self.out, "\"threshold\":{},", Hundredths(survey.threshold))?;
+        if self.asked.values {
+            self.values_as_json(&Values::of_base(cut))?;
+        } else {
+            self.stretches_as_json(survey)?;
+        }
+        let totals = Kind::ALL.map(|kind| format!("\"{kind}\":{{\"bins\":{},\"percent\":{:.2}}}", survey.bins(kind), survey.percent(kind)));
+        write!(self.out, ",\n  \"totals\":{{{}}}}}", totals.join(","))
+    }
+
+    fn stretches_as_json(&mut self, survey: &CutSurvey) -> io::Result<()> {
+        write!(self.out, "\"stretches\":[")?;
         let mut separator = "";
         for stretch in self.wanted(survey) {
             let Stretch { ray, first, length, kind } = stretch;
             write!(self.out, "{separator}\n  {{\"ray\":{ray},\"first\":{first},\"length\":{length},\"kind\":\"{kind}\"}}")?;
             separator = ",";
         }
-        let totals = Kind::ALL.map(|kind| format!("\"{kind}\":{{\"bins\":{},\"percent\":{:.2}}}", survey.bins(kind), survey.percent(kind)));
-        write!(self.out, "],\n  \"totals\":{{{}}}}}", totals.join(","))
+        write!(self.out, "]")
     }
 }
 

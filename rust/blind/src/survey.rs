@@ -8,6 +8,16 @@ pub enum Problem {
     Refused(Refusal),
     Unread(io::Error),
     Undrawn(String, io::Error),
+    /// an option that a dual-polarisation file knows nothing of
+    ForBase(String),
+    /// stretches as comma-separated values, of a dual-polarisation file
+    NoStretches,
+}
+
+impl From<Refusal> for Problem {
+    fn from(refusal: Refusal) -> Problem {
+        Problem::Refused(refusal)
+    }
 }
 
 impl fmt::Display for Problem {
@@ -16,6 +26,10 @@ impl fmt::Display for Problem {
             Problem::Refused(refusal) => write!(f, "{refusal}"),
             Problem::Unread(why) => write!(f, "could not be read: {why}"),
             Problem::Undrawn(out, why) => write!(f, "{out} could not be written: {why}"),
+            Problem::ForBase(option) => write!(f, "is a dual-polarisation file, and {option} is for files of the base format"),
+            Problem::NoStretches => {
+                write!(f, "is a dual-polarisation file and has no stretches to list: add --values or --totals to --csv")
+            }
         }
     }
 }

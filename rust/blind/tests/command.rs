@@ -20,7 +20,7 @@ fn told(octets: &[u8]) -> String {
 fn the_documents_sample() {
     let output = blind(&["document01.bin"]);
     let text = "\
-document01.bin: reflectivity, 2026-06-14T03:40:00Z, site 47695, 1 cut
+document01.bin: base format, reflectivity, 2026-06-14T03:40:00Z, site 47695, 1 cut
 cut 0: elevation 1.30 degrees, 2 rays of 5 bins, threshold 40.00 dBZ
   ray  azimuth  first  bins   from km     to km  kind
     0   135.00      0     2     0.000     1.000  missing
@@ -58,7 +58,7 @@ document01.bin,0,over,0,0.00
 fn as_json() {
     let output = blind(&["--json", "--kind", "over", "document01.bin", "cut-short.bin"]);
     let text = r#"[
-{"file":"document01.bin","product":"reflectivity","unit":"dBZ","time":"2026-06-14T03:40:00Z","site":47695,"cuts":[
+{"file":"document01.bin","format":"base","product":"reflectivity","unit":"dBZ","time":"2026-06-14T03:40:00Z","site":47695,"cuts":[
  {"cut":0,"elevation":1.30,"bins":5,"rays":2,"start_azimuth":45.00,"spacing_m":500,"threshold":40.00,"stretches":[
   {"ray":0,"first":2,"length":3,"kind":"over"},
   {"ray":1,"first":0,"length":1,"kind":"over"}],
@@ -71,10 +71,30 @@ fn as_json() {
 }
 
 #[test]
+fn values() {
+    let output = blind(&["--values", "document01.bin"]);
+    let text = "\
+  ray  values in dBZ of bins 0 to 4, - where missing
+    0      -     - 41.12 41.12 41.12
+    1  41.12  0.00  0.00  0.00     -
+total missing        3 bins  30.00 %
+";
+    assert!(told(&output.stdout).contains(text), "{}", told(&output.stdout));
+    let listing = told(&blind(&["--values", "--csv", "document01.bin"]).stdout);
+    let lines: Vec<&str> = listing.lines().collect();
+    assert_eq!((lines.len(), lines[0]), (11, "file,cut,ray,bin,mark,value"));
+    assert_eq!(lines[6..8], ["document01.bin,0,1,0,measured,41.12", "document01.bin,0,1,1,measured,0"]);
+    assert_eq!(lines[10], "document01.bin,0,1,4,missing,");
+    let listing = told(&blind(&["--values", "--json", "document01.bin"]).stdout);
+    let text = "\"values\":[\n  [null,null,41.12,41.12,41.12],\n  [41.12,0,0,0,null]],\n  \"totals\":";
+    assert!(listing.contains(text) && !listing.contains("stretches"), "{listing}");
+}
+
+#[test]
 fn standard_input() {
     let input = File::open(sample("document01.bin")).expect("the sample");
     let output = Command::new(env!("CARGO_BIN_EXE_blind")).args(["--totals", "-"]).stdin(input).output().expect("the command");
-    assert!(told(&output.stdout).starts_with("-: reflectivity"));
+    assert!(told(&output.stdout).starts_with("-: base format, reflectivity"));
     assert_eq!(output.status.code(), Some(0));
 }
 
@@ -83,14 +103,17 @@ fn standard_input() {
 fn refusals() {
     let output = blind(&["--totals", "cut-short.bin", "no-such-file", "dark.bin"]);
     let (listing, errors) = (told(&output.stdout), told(&output.stderr));
-    assert!(listing.contains("dark.bin: reflectivity") && listing.contains("total missing   256000 bins 100.00 %"), "{listing}");
+    assert!(
+        listing.contains("dark.bin: base format, reflectivity") && listing.contains("total missing   256000 bins 100.00 %"),
+        "{listing}"
+    );
     assert!(errors.contains("blind: cut-short.bin: refused 2 at 0: "), "{errors}");
     assert!(errors.contains("blind: no-such-file: could not be read: "), "{errors}");
     assert_eq!(output.status.code(), Some(1));
     let output = blind(&["--cut", "1", "dark.bin"]);
     assert!(told(&output.stderr).contains("refused 10 at 0"));
     assert_eq!((output.stdout.len(), output.status.code()), (0, Some(1)));
-    for wrong in [&["--threshold", "many", "dark.bin"][..], &[], &["--kind"]] {
+    for wrong in [&["--threshold", "many", "dark.bin"][..], &[], &["--kind"], &["--values", "--totals", "dark.bin"]] {
         assert_eq!(blind(wrong).status.code(), Some(2));
     }
 }

@@ -7,7 +7,7 @@ use reference::stretches::{list, portion, Entry, Portion, HOUSE_THRESHOLD};
 use reference::Refusal;
 
 /// Octets for a message, the first of them if they are many.
-fn shown(octets: &[u8]) -> String {
+pub(crate) fn shown(octets: &[u8]) -> String {
     const MOST: usize = 1500;
     let more = if octets.len() > MOST { ".." } else { "" };
     format!("{} octets {:?}{more}", octets.len(), &octets[..octets.len().min(MOST)])

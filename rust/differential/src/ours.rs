@@ -2,6 +2,8 @@
 //! words that a call must not set have to keep it.
 use polar_sys as library;
 use reference::calls::{CutFacts, Opened};
+use reference::dual::calls as dual;
+use reference::frame::Circle;
 use reference::layout::Grid;
 use reference::published::Product;
 use reference::runs::Written;
@@ -25,6 +27,23 @@ fn answered<T: Copy + PartialEq + TryInto<u64>, const K: usize>(number: u32, wor
 /// 0 to 2^64 - 1 as a number of bins, rays, cuts or octets
 fn size(word: u64) -> usize {
     usize::try_from(word).expect("a size")
+}
+
+/// A word that is never negative
+fn natural(word: i64) -> u64 {
+    u64::try_from(word).expect("a number from 0 on")
+}
+
+/// Nb, Nr, latitude, longitude, Dx, Dstart
+fn circle([bins, rays, latitude, longitude, dx, dstart]: [i64; 6]) -> Circle {
+    Circle {
+        bins: size(natural(bins)),
+        rays: size(natural(rays)),
+        latitude,
+        longitude: natural(longitude),
+        dx: natural(dx),
+        dstart: natural(dstart),
+    }
 }
 
 /// The bare run check answers no place: it is 0.
@@ -61,16 +80,7 @@ pub fn cut(file: &[u8], cut: usize) -> Result<CutFacts, Refusal> {
     let number = library::cut(file, cut, &mut answer);
     let words = answered(number, answer, KEPT_SIGNED)?;
     let [_, bins, rays, latitude, longitude, dx, dstart, azimuth, mode, known, elevation] = words;
-    let natural = |word: i64| u64::try_from(word).expect("a number from 0 on");
-    let grid = Grid {
-        bins: size(natural(bins)),
-        rays: size(natural(rays)),
-        latitude,
-        longitude: natural(longitude),
-        dx: natural(dx),
-        dstart: natural(dstart),
-        azimuth: natural(azimuth),
-    };
+    let grid = Grid::new(circle([bins, rays, latitude, longitude, dx, dstart]), natural(azimuth));
     let elevation = match known {
         0 => {
             assert_eq!(elevation, KEPT_SIGNED, "a missing elevation was given a number");
@@ -94,12 +104,9 @@ pub fn ray_values(file: &[u8], cut: usize, ray: usize, marks: &mut [u8], values:
     answered(number, place, KEPT).map(|_| ())
 }
 
-/// The value's bits, so that they are compared bit for bit.
-pub fn bin_value(file: &[u8], cut: usize, ray: usize, bin: usize) -> Result<Option<u64>, Refusal> {
-    let (mut value, mut answer) = (f64::from_bits(KEPT), [KEPT; 2]);
-    let number = library::bin_value(file, cut, ray, bin, &mut value, &mut answer);
-    let answer = answered(number, answer, KEPT);
-    match answer {
+/// What a bin call answered. The value's bits, so that they are compared bit for bit.
+fn bin(number: u32, value: f64, answer: [u64; 2]) -> Result<Option<u64>, Refusal> {
+    match answered(number, answer, KEPT) {
         Ok([_, 1]) => Ok(Some(value.to_bits())),
         other => {
             assert_eq!(value.to_bits(), KEPT, "a value where nothing was measured");
@@ -109,6 +116,12 @@ pub fn bin_value(file: &[u8], cut: usize, ray: usize, bin: usize) -> Result<Opti
             })
         }
     }
+}
+
+pub fn bin_value(file: &[u8], cut: usize, ray: usize, of_ray: usize) -> Result<Option<u64>, Refusal> {
+    let (mut value, mut answer) = (f64::from_bits(KEPT), [KEPT; 2]);
+    let number = library::bin_value(file, cut, ray, of_ray, &mut value, &mut answer);
+    bin(number, value, answer)
 }
 
 fn portion(number: u32, answer: [u64; 4]) -> Result<Portion, Refusal> {
@@ -126,4 +139,24 @@ pub fn house_stretches(file: &[u8], cut: usize, point: (usize, usize), words: &m
     let mut answer = [KEPT; 4];
     let number = library::house_stretches(file, cut, point, words, &mut answer);
     portion(number, answer)
+}
+
+pub fn dual_open(file: &[u8]) -> Result<dual::Opened, Refusal> {
+    let mut answer = [KEPT; 10];
+    let number = library::dual_open(file, &mut answer);
+    let [_, parameter, year, month, day, hour, minute, second, site, cuts] = answered(number, answer, KEPT)?;
+    Ok(dual::Opened { parameter, time: [year, month, day, hour, minute, second], site, cuts: size(cuts) })
+}
+
+pub fn dual_cut(file: &[u8], cut: usize) -> Result<Circle, Refusal> {
+    let mut answer = [KEPT_SIGNED; 7];
+    let number = library::dual_cut(file, cut, &mut answer);
+    let [_, words @ ..] = answered(number, answer, KEPT_SIGNED)?;
+    Ok(circle(words))
+}
+
+pub fn dual_bin_value(file: &[u8], cut: usize, ray: usize, of_ray: usize) -> Result<Option<u64>, Refusal> {
+    let (mut value, mut answer) = (f64::from_bits(KEPT), [KEPT; 2]);
+    let number = library::dual_bin_value(file, cut, ray, of_ray, &mut value, &mut answer);
+    bin(number, value, answer)
 }

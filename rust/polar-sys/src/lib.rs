@@ -2,7 +2,7 @@
 //! `include/polar.h`. Nothing else in this workspace is unsafe. A test holds [`DECLARATIONS`] to the header and to the
 //! library's source.
 //!
-//! Each function returns 0, or document 01's refusal number. The first word of an answer is always set: the refusal's
+//! Each function returns 0, or the refusal's number. The first word of an answer is always set: the refusal's
 //! place, and 0 where nothing is refused. Its other words, and what lent buffers hold, change only where nothing is refused.
 #![deny(unsafe_op_in_unsafe_fn)]
 
@@ -39,6 +39,9 @@ declare! {
     fn polar_bin_value(file: *const u8, len: usize, cut: usize, ray: usize, bin: usize, value: *mut f64, answer: *mut [u64; 2]) -> u32;
     fn polar_stretches(file: *const u8, len: usize, cut: usize, t: i32, ray: usize, bin: usize, words: *mut u32, room: usize, answer: *mut [u64; 4]) -> u32;
     fn polar_house_stretches(file: *const u8, len: usize, cut: usize, ray: usize, bin: usize, words: *mut u32, room: usize, answer: *mut [u64; 4]) -> u32;
+    fn polar_dual_open(file: *const u8, len: usize, answer: *mut [u64; 10]) -> u32;
+    fn polar_dual_cut(file: *const u8, len: usize, cut: usize, answer: *mut [i64; 7]) -> u32;
+    fn polar_dual_bin_value(file: *const u8, len: usize, cut: usize, ray: usize, bin: usize, value: *mut f64, answer: *mut [u64; 2]) -> u32;
 }
 
 // Each call below hands on a slice as its pointer and its length, and an array as its pointer: memory that is there for as
@@ -105,4 +108,22 @@ pub fn stretches(file: &[u8], cut: usize, t: i32, point: (usize, usize), words: 
 #[inline]
 pub fn house_stretches(file: &[u8], cut: usize, point: (usize, usize), words: &mut [u32], answer: &mut [u64; 4]) -> u32 {
     unsafe { polar_house_stretches(file.as_ptr(), file.len(), cut, point.0, point.1, words.as_mut_ptr(), words.len(), answer) }
+}
+
+/// Open of a dual-polarisation file. Answer: place, parameter, year, month, day, hour, minute, second, site, number of cuts.
+#[inline]
+pub fn dual_open(file: &[u8], answer: &mut [u64; 10]) -> u32 {
+    unsafe { polar_dual_open(file.as_ptr(), file.len(), answer) }
+}
+
+/// A cut of a dual-polarisation file. Answer: place, Nb, Nr, latitude, longitude, Dx, Dstart.
+#[inline]
+pub fn dual_cut(file: &[u8], cut: usize, answer: &mut [i64; 7]) -> u32 {
+    unsafe { polar_dual_cut(file.as_ptr(), file.len(), cut, answer) }
+}
+
+/// A bin of a dual-polarisation file. Answer: place, mark. The value is set only where the mark is 1.
+#[inline]
+pub fn dual_bin_value(file: &[u8], cut: usize, ray: usize, bin: usize, value: &mut f64, answer: &mut [u64; 2]) -> u32 {
+    unsafe { polar_dual_bin_value(file.as_ptr(), file.len(), cut, ray, bin, value, answer) }
 }

@@ -50,6 +50,14 @@ pub struct Time {
     pub second: u8,
 }
 
+impl Time {
+    /// Year, month, day, hour, minute, second, as the library answers them of an accepted file.
+    pub(crate) fn of_words([year, month, day, hour, minute, second]: [u64; 6]) -> Time {
+        let small = |word: u64| word as u8;
+        Time { year: year as u16, month: small(month), day: small(day), hour: small(hour), minute: small(minute), second: small(second) }
+    }
+}
+
 impl fmt::Display for Time {
     fn fmt(&self, f: &mut fmt::Formatter<'_>) -> fmt::Result {
         let Time { year, month, day, hour, minute, second } = self;
@@ -86,15 +94,7 @@ impl<'a> File<'a> {
         let number = polar_sys::open(octets, &mut answer);
         Refusal::check(number, answer[0])?;
         let [_, product, year, month, day, hour, minute, second, site, cuts] = answer;
-        let small = |word: u64| word as u8;
-        let time = Time {
-            year: year as u16,
-            month: small(month),
-            day: small(day),
-            hour: small(hour),
-            minute: small(minute),
-            second: small(second),
-        };
+        let time = Time::of_words([year, month, day, hour, minute, second]);
         let product = if product == 1 { Product::Reflectivity } else { Product::Velocity };
         Ok(File { octets, product, time, site: site as u16, cuts: cuts as usize })
     }

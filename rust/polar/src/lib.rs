@@ -1,9 +1,10 @@
-//! Polar weather-radar files (GRIB2, run-length packed), read by a proved library.
+//! Polar weather-radar files (GRIB2), read by a proved library: base reflectivity and Doppler velocity, run-length packed,
+//! here; dual-polarisation files, simply packed, in [`dual`]. [`Format::of`] tells them apart.
 //!
 //! [`File::open`] takes the octets of a whole file and checks all of it. What an accepted file holds is then there by
 //! iterators: its [cuts](File::cuts), their [rays](Cut::rays) and their [stretches](Cut::stretches), the longest
 //! pieces of a ray that are blind, under a threshold, or at or over it. Octets that are no such file get a [`Refusal`] with
-//! document 01's number, a place in the file and a plain sentence.
+//! a number, a place in the file and a plain sentence.
 //!
 //! A bin that was not measured has no number: its value is `None`, never 0.
 //!
@@ -28,11 +29,14 @@
 #![forbid(unsafe_code)]
 #![warn(missing_docs)]
 
+pub mod dual;
 mod file;
+mod format;
 mod refusal;
 pub mod runs;
 mod stretches;
 
 pub use file::{Cut, Cuts, File, Product, Ray, Rays, Time};
+pub use format::Format;
 pub use refusal::{Reason, Refusal};
 pub use stretches::{Kind, Stretch, Stretches, HOUSE_THRESHOLD};

@@ -1,38 +1,41 @@
-//! Refusals: document 01's numbers, by name.
+//! Refusals: document 01's numbers and wish 6's, by name.
 use std::error::Error;
 use std::fmt;
 
-/// Why a call was refused: one case for each of document 01's numbers.
+/// Why a call was refused: one case for each number.
 #[derive(Debug, Clone, Copy, PartialEq, Eq, Hash)]
 pub enum Reason {
     /// 1: the file is under 20 or over 8,388,608 octets.
-    FileSize,
+    FileSize = 1,
     /// 2: section 0 is not as it should be.
-    SectionZero,
+    SectionZero = 2,
     /// 3: a section's length or number cannot stand where it does, or the end is wrong.
-    Sections,
+    Sections = 3,
     /// 4: a section's own length is wrong.
-    SectionLength,
+    SectionLength = 4,
     /// 5: a named field is outside its rule.
-    Field,
+    Field = 5,
     /// 6: a point count is not bins times rays.
-    Points,
+    Points = 6,
     /// 7: the value table differs from the published one.
-    Values,
+    Values = 7,
     /// 8: data opens above V, or gives more or fewer bins than wanted.
-    Data,
+    Data = 8,
     /// 9: a 65th cut begins.
-    Cuts,
+    Cuts = 9,
     /// 10: an argument is outside its range.
-    Argument,
+    Argument = 10,
     /// 11: lent room is too short.
-    Room,
+    Room = 11,
     /// 12: V is over 253.
-    V,
+    V = 12,
+    /// 14: a dual-polarisation file of a kind that is not read: R is infinite or not a number, a cell's width is neither 8
+    /// nor 16 bits, or the scan is not a turn at one elevation (PPI).
+    Unread = 14,
 }
 
 impl Reason {
-    const ALL: [Reason; 12] = [
+    const ALL: [Reason; 13] = [
         Reason::FileSize,
         Reason::SectionZero,
         Reason::Sections,
@@ -45,11 +48,12 @@ impl Reason {
         Reason::Argument,
         Reason::Room,
         Reason::V,
+        Reason::Unread,
     ];
 
-    /// Document 01's number, 1 to 12.
+    /// Its number: 1 to 12 by document 01, and 14.
     pub fn number(self) -> u32 {
-        self as u32 + 1
+        self as u32
     }
 
     /// What it means, in a plain sentence.
@@ -69,6 +73,10 @@ impl Reason {
             Reason::Argument => "a number that was asked for is outside its range",
             Reason::Room => "the room for the answer is too short",
             Reason::V => "the greatest level of packed data is over 253",
+            Reason::Unread => {
+                "this kind of dual-polarisation file is not read: its reference value is no number, its cells are neither 8 nor 16 bits \
+                 wide, or its scan is not a turn at one elevation"
+            }
         }
     }
 }
@@ -83,10 +91,11 @@ pub struct Refusal {
 impl Refusal {
     /// The refusal that the library answered, if it did.
     pub(crate) fn check(number: u32, place: u64) -> Result<(), Refusal> {
-        match number {
-            0 => Ok(()),
-            _ => Err(Refusal { reason: Reason::ALL[number as usize - 1], place }),
+        if number == 0 {
+            return Ok(());
         }
+        let reason = Reason::ALL.into_iter().find(|reason| reason.number() == number).expect("a refusal's number");
+        Err(Refusal { reason, place })
     }
 
     /// Why.
@@ -94,7 +103,7 @@ impl Refusal {
         self.reason
     }
 
-    /// Document 01's number, 1 to 12.
+    /// Its number: 1 to 12 by document 01, and 14.
     pub fn number(self) -> u32 {
         self.reason.number()
     }
@@ -119,7 +128,7 @@ mod tests {
 
     #[test]
     fn numbers_and_reasons_belong_together() {
-        for (reason, number) in Reason::ALL.into_iter().zip(1..) {
+        for (reason, number) in Reason::ALL.into_iter().zip((1..=12).chain([14])) {
             assert_eq!(reason.number(), number);
             assert_eq!(Refusal::check(number, 7), Err(Refusal { reason, place: 7 }));
         }

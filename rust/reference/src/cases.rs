@@ -1,6 +1,6 @@
 //! Files with the verdict that document 01 gives each, said by hand: every named field one below, at and one past each end
 //! of its range, every length one off, the order of sections, the order of checks, the limits.
-use crate::layout::MOST_CUTS;
+use crate::frame::{GREATEST_FILE, MOST_CUTS};
 use crate::maker::{assemble, set_total, CutPlan, Plan, Section};
 use crate::published::Product;
 
@@ -12,7 +12,7 @@ pub struct Case {
 }
 
 /// A field of a section, values inside its rule and values outside.
-struct Field {
+pub(crate) struct Field {
     section: u8,
     first: usize,
     width: usize,
@@ -20,18 +20,18 @@ struct Field {
     outside: &'static [u64],
 }
 
-const fn field(section: u8, first: usize, width: usize, inside: &'static [u64], outside: &'static [u64]) -> Field {
+pub(crate) const fn field(section: u8, first: usize, width: usize, inside: &'static [u64], outside: &'static [u64]) -> Field {
     Field { section, first, width, inside, outside }
 }
 
 /// The sign of a number of two and of four octets.
-const MINUS16: u64 = 1 << 15;
-const MINUS32: u64 = 1 << 31;
-const ONES16: u64 = 0xFFFF;
-const ONES32: u64 = 0xFFFF_FFFF;
+pub(crate) const MINUS16: u64 = 1 << 15;
+pub(crate) const MINUS32: u64 = 1 << 31;
+pub(crate) const ONES16: u64 = 0xFFFF;
+pub(crate) const ONES32: u64 = 0xFFFF_FFFF;
 
-/// All fields whose rule stands alone.
-const FIELDS: [Field; 38] = [
+/// All fields whose rule stands alone and is that of both formats.
+pub(crate) const SHARED_FIELDS: [Field; 20] = [
     field(1, 6, 2, &[34], &[0, 33, 35, ONES16]),
     field(1, 8, 2, &[0], &[1, 256, ONES16]),
     field(1, 10, 2, &[0, ONES16], &[]),
@@ -47,11 +47,16 @@ const FIELDS: [Field; 38] = [
     field(3, 6, 1, &[0], &[1, 255]),
     field(3, 11, 1, &[0], &[1, 255]),
     field(3, 12, 1, &[0], &[1, 255]),
-    field(3, 13, 2, &[50120], &[0, 50119, 50121, ONES16]),
     field(3, 23, 4, &[0, 90_000_000, MINUS32, MINUS32 + 90_000_000], &[90_000_001, MINUS32 - 1, MINUS32 + 90_000_001, ONES32]),
     field(3, 27, 4, &[0, 360_000_000], &[360_000_001, MINUS32, ONES32]),
     field(3, 31, 4, &[1, 50000, ONES32], &[0]),
     field(3, 35, 4, &[0, 1, ONES32], &[]),
+    field(6, 6, 1, &[255], &[0, 254]),
+];
+
+/// Those of the base format alone.
+const FIELDS: [Field; 18] = [
+    field(3, 13, 2, &[50120], &[0, 50119, 50121, ONES16]),
     field(3, 39, 1, &[0], &[1, 255]),
     field(3, 40, 2, &[0, 36000], &[36001, ONES16]),
     field(4, 6, 2, &[0], &[1, 256, ONES16]),
@@ -69,7 +74,6 @@ const FIELDS: [Field; 38] = [
     field(5, 10, 2, &[200], &[0, 199, 201, ONES16]),
     field(5, 12, 1, &[8], &[7, 9, 255]),
     field(5, 17, 1, &[2], &[1, 3, 255]),
-    field(6, 6, 1, &[255], &[0, 254]),
 ];
 
 /// The place of section `index` in the file of these sections.
@@ -82,56 +86,91 @@ fn index_of(sections: &[Section], number: u8) -> usize {
 }
 
 #[derive(Default)]
-struct Cases(Vec<Case>);
+pub(crate) struct Cases(pub Vec<Case>);
 
 impl Cases {
-    fn add(&mut self, name: impl Into<String>, file: Vec<u8>, verdict: Option<(u32, usize)>) {
+    pub fn add(&mut self, name: impl Into<String>, file: Vec<u8>, verdict: Option<(u32, usize)>) {
         self.0.push(Case { name: name.into(), file, verdict });
     }
 
     /// A case for a change to the first section of a number: accepted, or refused at that section.
-    fn change(&mut self, name: impl Into<String>, plan: &Plan, number: u8, refusal: Option<u32>, change: impl FnOnce(&mut Section)) {
-        let mut sections = plan.sections();
+    pub fn change(
+        &mut self,
+        name: impl Into<String>,
+        sound: &[Section],
+        number: u8,
+        refusal: Option<u32>,
+        change: impl FnOnce(&mut Section),
+    ) {
+        let mut sections = sound.to_vec();
         let at = index_of(&sections, number);
         let place = place_of(&sections, at);
         change(&mut sections[at]);
         self.add(name, assemble(&sections), refusal.map(|n| (n, place)));
     }
 
-    /// A case for other sections than the plan's: accepted, or refused at section `at` of them.
-    fn sections(&mut self, name: impl Into<String>, sections: &[Section], refusal: Option<(u32, usize)>) {
+    /// A case for these sections: accepted, or refused at section `at` of them.
+    pub fn sections(&mut self, name: impl Into<String>, sections: &[Section], refusal: Option<(u32, usize)>) {
         self.add(name, assemble(sections), refusal.map(|(number, at)| (number, place_of(sections, at))));
     }
 
-    fn fields(&mut self, plan: &Plan) {
-        for f in &FIELDS {
-            let both = [(f.inside, None), (f.outside, Some(5))];
+    /// The fields' values inside their rules are accepted, those outside refused by this number.
+    pub fn fields(&mut self, sound: &[Section], fields: &[Field], number: u32) {
+        for f in fields {
+            let both = [(f.inside, None), (f.outside, Some(number))];
             for (value, refusal) in both.iter().flat_map(|(values, refusal)| values.iter().map(move |v| (*v, *refusal))) {
                 let name = format!("section {} octet {} is {value}", f.section, f.first);
-                self.change(name, plan, f.section, refusal, |s| s.put(f.first, f.width, value));
+                self.change(name, sound, f.section, refusal, |s| s.put(f.first, f.width, value));
             }
         }
     }
 
-    fn lengths(&mut self, plan: &Plan) {
-        for number in [1, 3, 4, 6] {
+    /// Sections whose length has one rule, off by a little.
+    pub fn lengths(&mut self, sound: &[Section], numbers: &[u8]) {
+        for number in numbers {
             for (less, more) in [(1, 0), (0, 1), (0, 4)] {
                 let name = format!("section {number} with {less} octets less, {more} more");
-                self.change(name, plan, number, Some(4), |s| s.resize(s.octets.len() - less + more));
+                self.change(name, sound, *number, Some(4), |s| s.resize(s.octets.len() - less + more));
             }
         }
-        for len in [5, 16, 17, 520, 522] {
-            self.change(format!("section 5 of {len} octets"), plan, 5, Some(4), |s| s.resize(len));
-        }
-        self.change("section 7 of 5 octets", plan, 7, Some(4), |s| s.resize(5));
-        self.change("section 7 of 6 octets", plan, 7, Some(8), |s| s.resize(6));
+    }
+
+    /// Lengths that no section can have where it stands.
+    pub fn lengths_that_do_not_fit(&mut self, sound: &[Section]) {
         for number in [1, 3, 4, 5, 6, 7] {
             for length in [0, 4, ONES32, 1 << 31] {
-                self.change(format!("section {number} said to be {length} long"), plan, number, Some(3), |s| s.put(1, 4, length));
+                self.change(format!("section {number} said to be {length} long"), sound, number, Some(3), |s| s.put(1, 4, length));
             }
         }
         // section 7 is the last: one octet more reaches into the last four
-        self.change("section 7 said to be one longer", plan, 7, Some(3), |s| s.put(1, 4, s.octets.len() as u64 + 1));
+        self.change("section 7 said to be one longer", sound, 7, Some(3), |s| s.put(1, 4, s.octets.len() as u64 + 1));
+    }
+
+    fn lengths_of_sections_5_and_7(&mut self, sound: &[Section]) {
+        for len in [5, 16, 17, 520, 522] {
+            self.change(format!("section 5 of {len} octets"), sound, 5, Some(4), |s| s.resize(len));
+        }
+        self.change("section 7 of 5 octets", sound, 7, Some(4), |s| s.resize(5));
+        self.change("section 7 of 6 octets", sound, 7, Some(8), |s| s.resize(6));
+    }
+
+    /// A grid past its ends, with the count of points that it would have.
+    pub fn grids_past_the_ends(&mut self, sound: &[Section]) {
+        for (bins, rays) in [(0, 1), (1, 0), (2049, 1), (1, 1025), (65536, 65536), (ONES32, 1)] {
+            self.change(format!("{bins} bins of {rays} rays"), sound, 3, Some(5), |s| {
+                s.put(15, 4, bins);
+                s.put(19, 4, rays);
+                s.put(7, 4, bins * rays);
+            });
+        }
+    }
+
+    /// Counts that are not the ten of this file.
+    pub fn counts_of_points(&mut self, sound: &[Section]) {
+        for points in [0, 9, 11, ONES32] {
+            self.change(format!("section 3 says {points} points"), sound, 3, Some(6), |s| s.put(7, 4, points));
+            self.change(format!("section 5 says {points} points"), sound, 5, Some(6), |s| s.put(6, 4, points));
+        }
     }
 
     fn points(&mut self) {
@@ -139,20 +178,11 @@ impl Cases {
             let plan = Plan::new(Product::Reflectivity, vec![CutPlan::of_levels(bins, rays, &vec![0; bins * rays])]);
             self.add(format!("{bins} bins of {rays} rays"), plan.file(), None);
         }
-        for (bins, rays) in [(0, 1), (1, 0), (2049, 1), (1, 1025), (65536, 65536), (ONES32 as usize, 1)] {
-            let plan = Plan::new(Product::Reflectivity, vec![CutPlan::of_levels(1, 1, &[0])]);
-            self.change(format!("{bins} bins of {rays} rays"), &plan, 3, Some(5), |s| {
-                s.put(15, 4, bins as u64);
-                s.put(19, 4, rays as u64);
-                s.put(7, 4, bins as u64 * rays as u64);
-            });
-        }
+        let plan = Plan::new(Product::Reflectivity, vec![CutPlan::of_levels(1, 1, &[0])]);
+        self.grids_past_the_ends(&plan.sections());
         let plan = Plan::new(Product::Velocity, vec![CutPlan::of_levels(5, 2, &[3; 10])]);
-        for points in [0, 9, 11, ONES32] {
-            self.change(format!("section 3 says {points} points"), &plan, 3, Some(6), |s| s.put(7, 4, points));
-            self.change(format!("section 5 says {points} points"), &plan, 5, Some(6), |s| s.put(6, 4, points));
-        }
         let mut sections = plan.sections();
+        self.counts_of_points(&sections);
         sections[1].put(15, 4, 2);
         sections[1].put(19, 4, 5);
         self.sections("bins and rays exchanged", &sections, Some((4, 2)));
@@ -162,34 +192,34 @@ impl Cases {
         for product in Product::BOTH {
             let m = u64::from(product.levels());
             let levels: Vec<u8> = (0..=product.levels() as u8).collect();
-            let plan = Plan::new(product, vec![CutPlan::of_levels(levels.len(), 1, &levels)]);
-            self.add(format!("all levels of {product:?}"), plan.file(), None);
+            let sound = Plan::new(product, vec![CutPlan::of_levels(levels.len(), 1, &levels)]).sections();
+            self.sections(format!("all levels of {product:?}"), &sound, None);
             for level in 1..=product.levels() as usize {
                 for (from, change) in [(16, 0x80), (16, 1), (17, 1), (17, 0x80)] {
-                    self.change(format!("value of level {level}, bit {change}"), &plan, 5, Some(7), |s| {
+                    self.change(format!("value of level {level}, bit {change}"), &sound, 5, Some(7), |s| {
                         s.octets[from + 2 * level - 1] ^= change
                     });
                 }
             }
-            self.change("minus zero in the table", &plan, 5, Some(7), |s| s.put(18, 2, MINUS16));
+            self.change("minus zero in the table", &sound, 5, Some(7), |s| s.put(18, 2, MINUS16));
             for v in [m + 1, 256, ONES16] {
-                self.change(format!("V is {v}"), &plan, 5, Some(5), |s| s.put(13, 2, v));
+                self.change(format!("V is {v}"), &sound, 5, Some(5), |s| s.put(13, 2, v));
             }
             for other in [m - 1, m + 1] {
-                self.change(format!("M is {other}, as the length"), &plan, 5, Some(5), |s| {
+                self.change(format!("M is {other}, as the length"), &sound, 5, Some(5), |s| {
                     s.resize(17 + 2 * other as usize);
                     s.put(13, 2, 0);
                     s.put(15, 2, other);
                 });
-                self.change(format!("M is {other}, not as the length"), &plan, 5, Some(4), |s| s.put(15, 2, other));
+                self.change(format!("M is {other}, not as the length"), &sound, 5, Some(4), |s| s.put(15, 2, other));
             }
             // an octet above V opens no run; V need not occur
             for v in [0, 1, 100, m] {
                 let mut cut = CutPlan::of_data(1, 1, v as u16, vec![0]);
                 self.add(format!("V is {v} and does not occur"), Plan::new(product, vec![cut.clone()]).file(), None);
                 cut.data = vec![v as u8 + 1];
-                let plan = Plan::new(product, vec![cut]);
-                self.change(format!("V is {v} and the data opens above it"), &plan, 7, Some(8), |_| ());
+                let sound = Plan::new(product, vec![cut]).sections();
+                self.change(format!("V is {v} and the data opens above it"), &sound, 7, Some(8), |_| ());
             }
         }
     }
@@ -219,10 +249,9 @@ impl Cases {
         self.sections("a cut under another's grid", &sections, Some((4, 6)));
     }
 
-    fn orders(&mut self) {
-        let plan = Plan::new(Product::Reflectivity, vec![CutPlan::of_levels(2, 1, &[1, 2])]);
-        let sections = plan.sections();
-        let [one, three, four, five, six, seven] = &sections[..] else { unreachable!("one cut") };
+    /// The order of sections, on those of a file of one cut.
+    pub fn orders(&mut self, sound: &[Section]) {
+        let [one, three, four, five, six, seven] = sound else { unreachable!("one cut") };
         self.add("no section", assemble(&[]), Some((3, 16)));
         for (name, order, at) in [
             ("section 1 alone", vec![one], 1),
@@ -246,7 +275,7 @@ impl Cases {
             self.sections(name, &order, Some((3, at)));
         }
         for number in [0, 2, 8, 9, 255] {
-            let mut sections = sections.clone();
+            let mut sections = sound.to_vec();
             for at in 0..sections.len() {
                 let kept = sections[at].number();
                 sections[at].put(5, 1, number);
@@ -254,7 +283,7 @@ impl Cases {
                 sections[at].put(5, 1, kept.into());
             }
         }
-        let sound = assemble(&sections);
+        let sound = assemble(sound);
         let end = sound.len() - 4;
         for at in end..sound.len() {
             let mut file = sound.clone();
@@ -275,32 +304,32 @@ impl Cases {
 
     /// Where one section breaks several rules, the first by the order 3, 9, 4, 5, 6, 7, 8 counts.
     fn order_of_checks(&mut self) {
-        let plan = Plan::new(Product::Reflectivity, vec![CutPlan::of_levels(2, 1, &[1, 2])]);
-        self.change("3 before 4", &plan, 3, Some(3), |s| {
+        let sound = Plan::new(Product::Reflectivity, vec![CutPlan::of_levels(2, 1, &[1, 2])]).sections();
+        self.change("3 before 4", &sound, 3, Some(3), |s| {
             s.resize(42);
             s.put(5, 1, 4);
         });
-        self.change("4 before 5", &plan, 3, Some(4), |s| {
+        self.change("4 before 5", &sound, 3, Some(4), |s| {
             s.put(6, 1, 1);
             s.resize(42);
         });
-        self.change("5 before 6", &plan, 3, Some(5), |s| {
+        self.change("5 before 6", &sound, 3, Some(5), |s| {
             s.put(7, 4, 0);
             s.put(40, 2, 36001);
         });
-        self.change("5 before 6 and 7", &plan, 5, Some(5), |s| {
+        self.change("5 before 6 and 7", &sound, 5, Some(5), |s| {
             s.put(6, 4, 0);
             s.put(18, 2, 1);
             s.put(17, 1, 1);
         });
-        self.change("6 before 7", &plan, 5, Some(6), |s| {
+        self.change("6 before 7", &sound, 5, Some(6), |s| {
             s.put(6, 4, 0);
             s.put(18, 2, 1);
         });
     }
 
-    fn ends(&mut self) {
-        let sound = Plan::new(Product::Velocity, vec![CutPlan::of_levels(2, 1, &[1, 2])]).file();
+    /// The ends of a file's length, and section 0.
+    pub fn ends(&mut self, sound: Vec<u8>) {
         for len in [0, 19] {
             self.add(format!("{len} octets"), sound[..len].to_vec(), Some((1, 0)));
         }
@@ -316,19 +345,20 @@ impl Cases {
         self.add("section 0 octets 5 and 6 are not named", file, None);
     }
 
-    fn many_cuts(&mut self) {
-        let mut plan = Plan::new(Product::Reflectivity, vec![CutPlan::of_levels(2, 1, &[1, 2]); MOST_CUTS]);
-        self.add("64 cuts", plan.file(), None);
-        plan.cuts.push(plan.cuts[0].clone());
-        let sections = plan.sections();
-        self.sections("65 cuts", &sections, Some((9, 1 + 5 * MOST_CUTS)));
+    /// 64 cuts and 65, of the sections of a file of one cut.
+    pub fn many_cuts(&mut self, one: &[Section]) {
+        let cuts = |count| -> Vec<Section> { one[..1].iter().chain(one[1..].iter().cycle().take(5 * count)).cloned().collect() };
+        let past = 1 + 5 * MOST_CUTS;
+        self.sections("64 cuts", &cuts(MOST_CUTS), None);
+        let mut sections = cuts(MOST_CUTS + 1);
+        self.sections("65 cuts", &sections, Some((9, past)));
         let mut spoiled = sections.clone();
-        spoiled[1 + 5 * MOST_CUTS].resize(40);
-        self.sections("a 65th cut: 9 before 4", &spoiled, Some((9, 1 + 5 * MOST_CUTS)));
-        spoiled[1 + 5 * MOST_CUTS].put(5, 1, 5);
-        self.sections("a 65th cut: 3 before 9", &spoiled, Some((3, 1 + 5 * MOST_CUTS)));
-        plan.cuts[MOST_CUTS].own_grid = false;
-        self.sections("65 cuts, the last with no section 3", &plan.sections(), Some((9, 1 + 5 * MOST_CUTS)));
+        spoiled[past].resize(40);
+        self.sections("a 65th cut: 9 before 4", &spoiled, Some((9, past)));
+        spoiled[past].put(5, 1, 5);
+        self.sections("a 65th cut: 3 before 9", &spoiled, Some((3, past)));
+        sections.remove(past);
+        self.sections("65 cuts, the last with no section 3", &sections, Some((9, past)));
     }
 
     /// Files at the limit of 8,388,608 octets and one past it: the data ends in a tail of zero digits.
@@ -338,24 +368,29 @@ impl Cases {
             Plan::new(Product::Velocity, vec![CutPlan::of_data(2, 1, 1, data)]).file()
         };
         let least = file_of(0).len();
-        self.add("8,388,608 octets", file_of(crate::layout::GREATEST_FILE - least), None);
-        self.add("8,388,609 octets", file_of(crate::layout::GREATEST_FILE - least + 1), Some((1, 0)));
+        self.add("8,388,608 octets", file_of(GREATEST_FILE - least), None);
+        self.add("8,388,609 octets", file_of(GREATEST_FILE - least + 1), Some((1, 0)));
     }
 }
 
 /// Every case.
 pub fn all() -> Vec<Case> {
-    let small = Plan::new(Product::Reflectivity, vec![CutPlan::of_levels(5, 2, &[0, 0, 130, 130, 130, 130, 1, 1, 1, 0])]);
+    let of_levels = |product, bins, rays, levels: &[u8]| Plan::new(product, vec![CutPlan::of_levels(bins, rays, levels)]).sections();
+    let small = of_levels(Product::Reflectivity, 5, 2, &[0, 0, 130, 130, 130, 130, 1, 1, 1, 0]);
+    let two_bins = of_levels(Product::Reflectivity, 2, 1, &[1, 2]);
     let mut cases = Cases::default();
-    cases.fields(&small);
-    cases.lengths(&small);
+    cases.fields(&small, &SHARED_FIELDS, 5);
+    cases.fields(&small, &FIELDS, 5);
+    cases.lengths(&small, &[1, 3, 4, 6]);
+    cases.lengths_of_sections_5_and_7(&small);
+    cases.lengths_that_do_not_fit(&small);
     cases.points();
     cases.values();
     cases.later_cuts();
-    cases.orders();
+    cases.orders(&two_bins);
     cases.order_of_checks();
-    cases.ends();
-    cases.many_cuts();
+    cases.ends(assemble(&of_levels(Product::Velocity, 2, 1, &[1, 2])));
+    cases.many_cuts(&two_bins);
     cases.largest();
     cases.0
 }

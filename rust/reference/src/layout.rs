@@ -1,17 +1,9 @@
-//! "Sections" and "Refusal numbers": the verdict on any octets.
-use crate::octets::{magnitude, signed, unsigned};
+//! "Sections" and "Refusal numbers": the verdict on any octets, by document 01's own sections 3, 4, 5 and 7.
+use crate::frame::{circle, walk, Circle, Format, Section};
+use crate::octets::signed;
 use crate::published::Product;
-use crate::{refused, refused_at, runs, Refusal};
+use crate::{refused_at, runs, Refusal};
 use std::cell::OnceCell;
-use std::ops::RangeInclusive;
-
-pub const LEAST_FILE: usize = 20;
-pub const GREATEST_FILE: usize = 8_388_608;
-pub const MOST_CUTS: usize = 64;
-/// The octets of section 0, where the first walked section begins.
-const SECTION_0: usize = 16;
-/// The octets of section 8, which stand at the file's end.
-const SECTION_8: &[u8] = b"7777";
 
 /// What a section 3 says.
 #[derive(Debug, Clone, Copy, PartialEq, Eq)]
@@ -23,6 +15,18 @@ pub struct Grid {
     pub dx: u64,
     pub dstart: u64,
     pub azimuth: u64,
+}
+
+impl Grid {
+    pub fn new(circle: Circle, azimuth: u64) -> Grid {
+        let Circle { bins, rays, latitude, longitude, dx, dstart } = circle;
+        Grid { bins, rays, latitude, longitude, dx, dstart, azimuth }
+    }
+
+    pub fn circle(&self) -> Circle {
+        let Grid { bins, rays, latitude, longitude, dx, dstart, .. } = *self;
+        Circle { bins, rays, latitude, longitude, dx, dstart }
+    }
 }
 
 #[derive(Debug, Clone)]
@@ -58,89 +62,13 @@ pub struct Accepted<'a> {
     pub cuts: Vec<Cut<'a>>,
 }
 
-/// One section: its octets, with the length's four and the number's one in front.
-struct Section<'a> {
-    place: usize,
-    octets: &'a [u8],
-}
-
-impl<'a> Section<'a> {
-    /// Octets `first` to `last`, counted from 1.
-    fn field(&self, octets: RangeInclusive<usize>) -> &'a [u8] {
-        &self.octets[octets.start() - 1..*octets.end()]
-    }
-
-    fn number_at(&self, octets: RangeInclusive<usize>) -> u64 {
-        unsigned(self.field(octets))
-    }
-
-    fn octet(&self, n: usize) -> u8 {
-        self.octets[n - 1]
-    }
-
-    /// Refusal `number` at this section, unless `met`.
-    fn check(&self, number: u32, met: bool) -> Result<(), Refusal> {
-        if met {
-            Ok(())
-        } else {
-            refused_at(number, self.place)
-        }
-    }
-}
-
-/// The section at `place`, or refusal 3. The last four octets are no part of any.
-fn section_at(file: &[u8], place: usize) -> Result<(u8, Section<'_>), Refusal> {
-    let rest = &file[place..file.len() - SECTION_8.len()];
-    if rest.len() < 5 {
-        return refused_at(3, place);
-    }
-    let length = unsigned(&rest[..4]) as usize;
-    if length < 5 || length > rest.len() {
-        return refused_at(3, place);
-    }
-    Ok((rest[4], Section { place, octets: &rest[..length] }))
-}
-
-fn check_section_0(file: &[u8]) -> bool {
-    let section = Section { place: 0, octets: file };
-    section.field(1..=4) == b"GRIB" && section.octet(7) == 0 && section.octet(8) == 2 && section.number_at(9..=16) == file.len() as u64
-}
-
-fn section_1(s: &Section) -> Result<[u64; 6], Refusal> {
-    s.check(4, s.octets.len() == 21)?;
-    let time = [s.number_at(13..=14), s.octet(15).into(), s.octet(16).into(), s.octet(17).into(), s.octet(18).into(), s.octet(19).into()];
-    let ranges = [1000..=9999, 1..=12, 1..=31, 0..=23, 0..=59, 0..=59];
-    s.check(5, s.number_at(6..=7) == 34)?;
-    s.check(5, s.number_at(8..=9) == 0)?;
-    s.check(5, s.octet(12) == 3)?;
-    s.check(5, time.iter().zip(&ranges).all(|(part, range)| range.contains(part)))?;
-    s.check(5, s.octet(20) == 0)?;
-    s.check(5, s.octet(21) == 7)?;
-    Ok(time)
-}
-
 fn section_3(s: &Section) -> Result<Grid, Refusal> {
     s.check(4, s.octets.len() == 41)?;
-    let (bins, rays) = (s.number_at(15..=18), s.number_at(19..=22));
-    s.check(5, s.octet(6) == 0 && s.octet(11) == 0 && s.octet(12) == 0)?;
-    s.check(5, s.number_at(13..=14) == 50120)?;
-    s.check(5, (1..=2048).contains(&bins))?;
-    s.check(5, (1..=1024).contains(&rays))?;
-    s.check(5, magnitude(s.field(23..=26)) <= 90_000_000)?;
-    s.check(5, s.number_at(27..=30) <= 360_000_000)?;
-    s.check(5, s.number_at(31..=34) != 0)?;
+    let circle = circle(s, 50120)?;
     s.check(5, s.octet(39) == 0)?;
     s.check(5, s.number_at(40..=41) <= 36000)?;
-    s.check(6, s.number_at(7..=10) == bins * rays)?;
-    Ok(Grid {
-        bins: bins as usize,
-        rays: rays as usize,
-        latitude: signed(s.field(23..=26)),
-        longitude: s.number_at(27..=30),
-        dx: s.number_at(31..=34),
-        dstart: s.number_at(35..=38),
-        azimuth: s.number_at(40..=41),
-    })
+    s.check(6, s.number_at(7..=10) == circle.points() as u64)?;
+    Ok(Grid::new(circle, s.number_at(40..=41)))
 }
 
 /// What a section 4 says.
@@ -184,11 +112,6 @@ fn section_5(s: &Section, grid: &Grid, product: Product) -> Result<u8, Refusal> 
     Ok(v as u8)
 }
 
-fn section_6(s: &Section) -> Result<(), Refusal> {
-    s.check(4, s.octets.len() == 6)?;
-    s.check(5, s.octet(6) == 255)
-}
-
 /// The data; what run reading answers is passed on.
 fn section_7<'a>(s: &Section<'a>, grid: &Grid, v: u8) -> Result<&'a [u8], Refusal> {
     s.check(4, s.octets.len() >= 6)?;
@@ -199,60 +122,57 @@ fn section_7<'a>(s: &Section<'a>, grid: &Grid, v: u8) -> Result<&'a [u8], Refusa
     }
 }
 
-/// The numbers of the sections that may follow one of this number.
-fn allowed_after(number: u8) -> &'static [u8] {
-    match number {
-        0 => &[1],
-        1 => &[3],
-        3 => &[4],
-        4 => &[5],
-        5 => &[6],
-        6 => &[7],
-        _ => &[3, 4],
+/// What was last seen of sections 3, 4 and 5, and product and site of the first cut.
+#[derive(Default)]
+struct Seen {
+    grid: Option<Grid>,
+    of_cut: Option<ProductOfCut>,
+    v: u8,
+    first: Option<(Product, u64)>,
+}
+
+impl Seen {
+    fn grid(&self) -> Grid {
+        self.grid.expect("section 3")
+    }
+
+    fn of_cut(&self) -> &ProductOfCut {
+        self.of_cut.as_ref().expect("section 4")
+    }
+}
+
+impl<'a> Format<'a> for Seen {
+    type Cut = Cut<'a>;
+
+    fn section_3(&mut self, s: &Section<'a>) -> Result<(), Refusal> {
+        self.grid = Some(section_3(s)?);
+        Ok(())
+    }
+
+    fn section_4(&mut self, s: &Section<'a>) -> Result<(), Refusal> {
+        let of_cut = section_4(s, &self.grid(), self.first)?;
+        self.first.get_or_insert((of_cut.product, of_cut.site));
+        self.of_cut = Some(of_cut);
+        Ok(())
+    }
+
+    fn section_5(&mut self, s: &Section<'a>) -> Result<(), Refusal> {
+        self.v = section_5(s, &self.grid(), self.of_cut().product)?;
+        Ok(())
+    }
+
+    fn section_7(&mut self, s: &Section<'a>) -> Result<Cut<'a>, Refusal> {
+        let (grid, v) = (self.grid(), self.v);
+        let data = section_7(s, &grid, v)?;
+        let ProductOfCut { mode, elevation, .. } = *self.of_cut();
+        Ok(Cut { grid, mode, elevation, v, data, levels: OnceCell::new() })
     }
 }
 
 /// Accepted, or refused by the order 1, 2, then section by section 3, 9, 4, 5, 6, 7, 8.
 pub fn verdict(file: &[u8]) -> Result<Accepted<'_>, Refusal> {
-    if !(LEAST_FILE..=GREATEST_FILE).contains(&file.len()) {
-        return refused(1);
-    }
-    if !check_section_0(file) {
-        return refused(2);
-    }
-    let end = file.len() - SECTION_8.len();
-    let (mut place, mut last) = (SECTION_0, 0);
-    let mut time = [0; 6];
-    let mut cuts = Vec::new();
-    // what was last seen of sections 3, 4 and 5; the order of sections has each seen before it is asked for
-    let (mut grid, mut of_cut, mut v) = (None, None, 0);
-    let mut first = None;
-    while place < end {
-        let (number, section) = section_at(file, place)?;
-        section.check(3, allowed_after(last).contains(&number))?;
-        section.check(9, !(last == 7 && cuts.len() == MOST_CUTS))?;
-        match number {
-            1 => time = section_1(&section)?,
-            3 => grid = Some(section_3(&section)?),
-            4 => {
-                let seen = section_4(&section, grid.as_ref().expect("section 3"), first)?;
-                first.get_or_insert((seen.product, seen.site));
-                of_cut = Some(seen);
-            }
-            5 => v = section_5(&section, grid.as_ref().expect("section 3"), of_cut.as_ref().expect("section 4").product)?,
-            6 => section_6(&section)?,
-            _ => {
-                let (grid, seen) = (grid.expect("section 3"), of_cut.as_ref().expect("section 4"));
-                let data = section_7(&section, &grid, v)?;
-                cuts.push(Cut { grid, mode: seen.mode, elevation: seen.elevation, v, data, levels: OnceCell::new() });
-            }
-        }
-        place += section.octets.len();
-        last = number;
-    }
-    if last != 7 || &file[end..] != SECTION_8 {
-        return refused_at(3, place);
-    }
-    let (product, site) = first.expect("a cut");
+    let mut seen = Seen::default();
+    let (time, cuts) = walk(file, &mut seen)?;
+    let (product, site) = seen.first.expect("a cut");
     Ok(Accepted { product, time, site, cuts })
 }

@@ -1,15 +1,20 @@
-//! A second view of what polar radar files mean, written from document 01 alone and by other means than the proved
-//! library: whole decoded cuts, iterators, no concern for speed. The tests hold the proved library to it.
+//! A second view of what polar radar files mean, written from document 01 and wish 6 alone and by other means than the proved
+//! library: whole decoded cuts, iterators, exact arithmetic, no concern for speed. The tests hold the proved library to it.
 //!
 //! * [`octets`], [`published`], [`runs`]: numbers in a file, published values, the run-length rule
-//! * [`layout`]: which octets are an accepted file, and how any others are refused
+//! * [`frame`], [`layout`]: which octets are an accepted file, and how any others are refused
 //! * [`calls`], [`stretches`], [`lister`]: document 01's calls and the text of the list
 //! * [`maker`], [`shapes`], [`scene`], [`cases`], [`spoil`]: made files, random sound ones, weather, files with their verdicts,
 //!   spoiled files
+//! * [`dual`]: the second format, dual-polarisation files, with all of the above for itself
+//! * [`exact`]: whole numbers of any size, and floats as what they are exactly
 //! * [`samples`]: what samples/ and the two programs' crates store
 //! * [`numbers`]: numbers that look random and are the same in every run
 pub mod calls;
 pub mod cases;
+pub mod dual;
+pub mod exact;
+pub mod frame;
 pub mod layout;
 pub mod lister;
 pub mod maker;

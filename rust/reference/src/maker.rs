@@ -1,4 +1,5 @@
 //! Made files: sound ones of any shape, and their sections to be changed before they are put together.
+use crate::frame::Circle;
 use crate::layout::Grid;
 use crate::octets::signed16;
 use crate::published::Product;
@@ -43,7 +44,12 @@ impl CutPlan {
 
 /// A grid of bins of 500 m, begun at the north-east.
 pub fn grid(bins: usize, rays: usize) -> Grid {
-    Grid { bins, rays, latitude: 35_859_722, longitude: 139_959_722, dx: 500_000, dstart: 0, azimuth: 4500 }
+    Grid::new(circle(bins, rays), 4500)
+}
+
+/// Bins of 500 m about the site.
+pub fn circle(bins: usize, rays: usize) -> Circle {
+    Circle { bins, rays, latitude: 35_859_722, longitude: 139_959_722, dx: 500_000, dstart: 0 }
 }
 
 /// A section to be: its octets, with the length's four in front.
@@ -53,7 +59,7 @@ pub struct Section {
 }
 
 impl Section {
-    fn new(number: u8, len: usize) -> Section {
+    pub(crate) fn new(number: u8, len: usize) -> Section {
         let mut section = Section { octets: vec![0xFF; len] };
         section.put(1, 4, len as u64);
         section.put(5, 1, number.into());
@@ -69,7 +75,7 @@ impl Section {
         self.octets[first - 1..][..width].copy_from_slice(&value.to_be_bytes()[8 - width..]);
     }
 
-    fn put_all(&mut self, fields: &[(usize, usize, u64)]) {
+    pub(crate) fn put_all(&mut self, fields: &[(usize, usize, u64)]) {
         for (first, width, value) in fields {
             self.put(*first, *width, *value);
         }
@@ -82,21 +88,29 @@ impl Section {
     }
 }
 
-fn section_1(plan: &Plan) -> Section {
+/// Year, month, day, hour, minute, second.
+pub(crate) fn section_1(time: &[u16; 6]) -> Section {
     let mut s = Section::new(1, 21);
-    s.put_all(&[(6, 2, 34), (8, 2, 0), (10, 1, 3), (11, 1, 1), (12, 1, 3), (13, 2, plan.time[0].into()), (20, 1, 0), (21, 1, 7)]);
-    for (part, octet) in plan.time[1..].iter().zip(15..) {
+    s.put_all(&[(6, 2, 34), (8, 2, 0), (10, 1, 3), (11, 1, 1), (12, 1, 3), (13, 2, time[0].into()), (20, 1, 0), (21, 1, 7)]);
+    for (part, octet) in time[1..].iter().zip(15..) {
         s.put(octet, 1, (*part).into());
     }
     s
 }
 
+/// A section 3 of either format, filled in up to Dstart.
+pub(crate) fn section_3_of(circle: &Circle, template: u64, len: usize) -> Section {
+    let mut s = Section::new(3, len);
+    let sign = if circle.latitude < 0 { 1 << 31 } else { 0 };
+    s.put_all(&[(6, 1, 0), (7, 4, circle.points() as u64), (11, 1, 0), (12, 1, 0), (13, 2, template)]);
+    s.put_all(&[(15, 4, circle.bins as u64), (19, 4, circle.rays as u64), (23, 4, sign | circle.latitude.unsigned_abs())]);
+    s.put_all(&[(27, 4, circle.longitude), (31, 4, circle.dx), (35, 4, circle.dstart)]);
+    s
+}
+
 fn section_3(grid: &Grid) -> Section {
-    let mut s = Section::new(3, 41);
-    let sign = if grid.latitude < 0 { 1 << 31 } else { 0 };
-    s.put_all(&[(6, 1, 0), (7, 4, (grid.bins * grid.rays) as u64), (11, 1, 0), (12, 1, 0), (13, 2, 50120)]);
-    s.put_all(&[(15, 4, grid.bins as u64), (19, 4, grid.rays as u64), (23, 4, sign | grid.latitude.unsigned_abs())]);
-    s.put_all(&[(27, 4, grid.longitude), (31, 4, grid.dx), (35, 4, grid.dstart), (39, 1, 0), (40, 2, grid.azimuth)]);
+    let mut s = section_3_of(&grid.circle(), 50120, 41);
+    s.put_all(&[(39, 1, 0), (40, 2, grid.azimuth)]);
     s
 }
 
@@ -120,11 +134,11 @@ fn section_5(plan: &Plan, cut: &CutPlan) -> Section {
     s
 }
 
-fn section_6() -> Section {
+pub(crate) fn section_6() -> Section {
     Section::new(6, 6)
 }
 
-fn section_7(data: &[u8]) -> Section {
+pub(crate) fn section_7(data: &[u8]) -> Section {
     let mut s = Section::new(7, 5 + data.len());
     s.octets[5..].copy_from_slice(data);
     s
@@ -138,7 +152,7 @@ impl Plan {
 
     /// All its sections but 0 and 8.
     pub fn sections(&self) -> Vec<Section> {
-        let mut sections = vec![section_1(self)];
+        let mut sections = vec![section_1(&self.time)];
         for cut in &self.cuts {
             if cut.own_grid {
                 sections.push(section_3(&cut.grid));

@@ -15,7 +15,7 @@ use std::path::{Path, PathBuf};
 
 pub type Files = BTreeMap<PathBuf, Vec<u8>>;
 
-/// The files of samples/: what each shows is said in samples/README.md.
+/// The files of samples/ in the base format: what each shows is said in samples/README.md.
 fn shown() -> Vec<(&'static str, Vec<u8>)> {
     let day = rainy_day();
     let ridge = day.plan(Product::Reflectivity, &[(120, 0.3), (120, 1.1), (110, 2.6)]).file();
@@ -32,7 +32,12 @@ fn shown() -> Vec<(&'static str, Vec<u8>)> {
     ]
 }
 
-/// The files that the program `samples` lists: those of samples/, cases of every refusal, random and spoiled ones.
+/// The same day by a dual-polarisation radar, low and over the ridge.
+fn dual() -> Vec<u8> {
+    rainy_day().dual_plan(&[(60, 0.3), (50, 2.6)]).file()
+}
+
+/// The files that the program `samples` lists: those of samples/ in the base format, cases of every refusal, random and spoiled ones.
 fn listed() -> BTreeMap<String, Vec<u8>> {
     let mut files: BTreeMap<String, Vec<u8>> = shown().into_iter().map(|(name, file)| (name.into(), file)).collect();
     let mut seen = BTreeMap::new();
@@ -61,6 +66,7 @@ fn listed() -> BTreeMap<String, Vec<u8>> {
 /// Everything stored, by its path from the top.
 pub fn all() -> Files {
     let mut files: Files = shown().into_iter().map(|(name, file)| (Path::new("samples").join(name), file)).collect();
+    files.insert("samples/dual.bin".into(), dual());
     let sample = document_sample().file();
     files.insert("crates/lister/stdout".into(), lister::text(&sample).into());
     files.insert("crates/lister/stdin".into(), sample);

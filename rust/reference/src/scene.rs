@@ -1,7 +1,10 @@
 //! Weather as a radar would see it: rain cells, a wind, and a ridge that hides what lies behind it. Plain arithmetic and
 //! square roots alone, so that every machine makes the same octets.
+use crate::dual::maker as dual;
+use crate::dual::packing::Packing;
+use crate::frame::Circle;
 use crate::layout::Grid;
-use crate::maker::{elevation, grid, CutPlan, Plan};
+use crate::maker::{circle, elevation, grid, CutPlan, Plan};
 use crate::numbers::Numbers;
 use crate::published::Product;
 
@@ -66,11 +69,11 @@ struct Sight {
 
 impl Scene {
     /// Hands on every bin of a cut, ray by ray.
-    fn look(&self, grid: &Grid, angle: f64, mut on_bin: impl FnMut(&Sight, &mut Numbers) -> u8) -> Vec<u8> {
+    fn look<T>(&self, grid: &Grid, angle: f64, mut on_bin: impl FnMut(&Sight, &mut Numbers) -> T) -> Vec<T> {
         let mut rough = Numbers::new(self.seed);
         let spacing = grid.dx as f64 / 1e6;
         let (rise, _) = sine_cosine(angle);
-        let mut levels = Vec::with_capacity(grid.bins * grid.rays);
+        let mut seen = Vec::with_capacity(grid.bins * grid.rays);
         for ray in 0..grid.rays {
             let azimuth = grid.azimuth as f64 / 100.0 + (ray as f64 + 0.5) * 360.0 / grid.rays as f64;
             let azimuth = azimuth % 360.0;
@@ -92,10 +95,10 @@ impl Scene {
                     height: rise * distance,
                     hidden: distance >= shadow,
                 };
-                levels.push(on_bin(&sight, &mut rough));
+                seen.push(on_bin(&sight, &mut rough));
             }
         }
-        levels
+        seen
     }
 
     /// The echo at a bin in dBZ, or none.
@@ -135,6 +138,26 @@ impl Scene {
                 _ => 0,
             }
         })
+    }
+
+    /// A cut of horizontal reflectivity as dual-polarisation radars send it: bins of 1 km on 128 rays begun at the north, in
+    /// hundredths of dBZ from -32 on; no value where the ridge hides and where there is no echo.
+    pub fn dual_cut(&self, bins: usize, angle: f64) -> dual::CutPlan {
+        let rays = 128;
+        let circle = Circle { dx: 1_000_000, ..circle(bins, rays) };
+        let packing = Packing { r: (-3200f32).to_bits(), e: 0, d: 2, width: 16 };
+        let cells = self.look(&Grid::new(circle, 0), angle, |sight, rough| match self.echo(sight, rough) {
+            Some(dbz) if !sight.hidden => ((dbz + 32.0) * 100.0).round() as u16,
+            _ => packing.all_ones(),
+        });
+        let mut cut = dual::CutPlan::new(bins, rays, packing, cells);
+        (cut.grid, cut.elevation) = (circle, elevation((angle * 100.0).round() as i32));
+        cut
+    }
+
+    /// A file of such cuts, each its number of bins and its elevation.
+    pub fn dual_plan(&self, cuts: &[(usize, f64)]) -> dual::Plan {
+        dual::Plan::new(cuts.iter().map(|(bins, angle)| self.dual_cut(*bins, *angle)).collect())
     }
 
     /// A cut at an elevation in degrees: `bins` of 500 m on each of 512 rays.

@@ -1,7 +1,8 @@
 //! Sound files of random shapes: both products, one to several cuts, grids of their own or shared, every field anywhere in
 //! its range, data packed by the writer's rule or loosely.
+use crate::frame::Circle;
 use crate::layout::Grid;
-use crate::maker::{elevation, grid, CutPlan, Plan};
+use crate::maker::{elevation, CutPlan, Plan};
 use crate::numbers::Numbers;
 use crate::published::Product;
 use crate::runs::write_run;
@@ -30,16 +31,26 @@ fn anywhere(n: &mut Numbers, most: u64) -> u64 {
     }
 }
 
-fn random_grid(bins: usize, rays: usize, n: &mut Numbers) -> Grid {
+pub(crate) fn random_circle(bins: usize, rays: usize, n: &mut Numbers) -> Circle {
     let latitude = anywhere(n, 90_000_000) as i64;
-    Grid {
+    Circle {
+        bins,
+        rays,
         latitude: if n.once_in(2) { -latitude } else { latitude },
         longitude: anywhere(n, 360_000_000),
         dx: 1 + anywhere(n, u64::from(u32::MAX) - 1),
         dstart: anywhere(n, u32::MAX.into()),
-        azimuth: anywhere(n, 36000),
-        ..grid(bins, rays)
     }
+}
+
+fn random_grid(bins: usize, rays: usize, n: &mut Numbers) -> Grid {
+    Grid::new(random_circle(bins, rays, n), anywhere(n, 36000))
+}
+
+/// Year, month, day, hour, minute, second.
+pub(crate) fn random_time(n: &mut Numbers) -> [u16; 6] {
+    let ends = [(1000, 9999), (1, 12), (1, 31), (0, 23), (0, 59), (0, 59)];
+    ends.map(|(low, high)| (low + anywhere(n, high - low)) as u16)
 }
 
 fn random_elevation(n: &mut Numbers) -> u16 {
@@ -91,7 +102,6 @@ pub fn random_plan(most_cuts: usize, most_bins: usize, most_rays: usize, n: &mut
     }
     let mut plan = Plan::new(product, cuts);
     plan.site = n.word() as u16;
-    let ends = [(1000, 9999), (1, 12), (1, 31), (0, 23), (0, 59), (0, 59)];
-    plan.time = ends.map(|(low, high)| (low + anywhere(n, high - low)) as u16);
+    plan.time = random_time(n);
     plan
 }

@@ -2,7 +2,9 @@
 //! spoiled files and on octets of any kind, with arguments also at the ends of their types. It stops at the first answer or
 //! octet that differs, and names the round that it came in.
 use differential::compare::{run_check, run_read, run_write, Compared};
-use reference::maker::{CutPlan, Plan};
+use differential::dual;
+use reference::dual::shapes as dual_shapes;
+use reference::maker::{assemble, CutPlan, Plan, Section};
 use reference::numbers::Numbers;
 use reference::published::Product;
 use reference::runs::MOST_LEVELS;
@@ -90,10 +92,15 @@ fn file(n: &mut Numbers) -> Vec<u8> {
             random_plan(4, bins, rays, n)
         }
     };
+    spoiled_or_sound(&plan.sections(), n)
+}
+
+/// The file of these sections, or a spoiled one.
+fn spoiled_or_sound(sections: &[Section], n: &mut Numbers) -> Vec<u8> {
     if n.once_in(5) {
-        return spoil_sections(&plan.sections(), n);
+        return spoil_sections(sections, n);
     }
-    let mut file = plan.file();
+    let mut file = assemble(sections);
     let spoilings = n.one_of(&[0, 0, 0, 1, 1, 2, 5]);
     for _ in 0..spoilings {
         if !file.is_empty() {
@@ -101,6 +108,34 @@ fn file(n: &mut Numbers) -> Vec<u8> {
         }
     }
     file
+}
+
+/// A dual-polarisation file, now and then of many cuts or of a great grid.
+fn dual_file(n: &mut Numbers) -> Vec<u8> {
+    let (cuts, bins, rays) = match n.below(40) {
+        0 => (1, 2048, 200),
+        1 => (66, 3, 3),
+        _ => n.one_of(&[(4, 1, 1), (4, 6, 4), (4, 30, 10), (4, 1, 30), (4, 50, 1)]),
+    };
+    spoiled_or_sound(&dual_shapes::random_plan(cuts, bins, rays, n).sections(), n)
+}
+
+/// The dual-polarisation calls on a file of their format, or now and then of the base format, and two of the base format's.
+fn dual_files(n: &mut Numbers) {
+    let file = if n.once_in(8) { file(n) } else { dual_file(n) };
+    let compared = dual::Compared::new(&file);
+    compared.every_call();
+    let cuts = compared.verdict.as_ref().map_or(1, |accepted| accepted.cuts.len());
+    for _ in 0..16 {
+        let cut = argument(cuts, n);
+        let grid = compared.verdict.as_ref().ok().and_then(|accepted| accepted.cuts.get(cut)).map(|cut| cut.grid);
+        let (bins, rays) = grid.map_or((4, 4), |grid| (grid.bins, grid.rays));
+        compared.cut(cut);
+        compared.bin_value(cut, argument(rays, n), argument(bins, n));
+    }
+    let compared = Compared::new(&file);
+    let _ = compared.open();
+    compared.cut(argument(cuts, n));
 }
 
 fn files(n: &mut Numbers) {
@@ -150,6 +185,7 @@ fn fuzz() -> Result<(), String> {
             let mut n = Numbers::new(round);
             runs(&mut n);
             files(&mut n);
+            dual_files(&mut n);
         });
         if let Err(panic) = met {
             eprintln!("round {rounds} of seed {seed}");

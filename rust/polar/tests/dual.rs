@@ -1,0 +1,83 @@
+//! The safe crate's dual-polarisation files against the independent reader.
+use polar::dual::{File, Parameter};
+use polar::{Format, Reason};
+use reference::dual::cases;
+use reference::dual::layout::verdict;
+use reference::dual::maker::Plan;
+use reference::dual::shapes::{random_cut, random_plan};
+use reference::maker::document_sample;
+use reference::numbers::Numbers;
+use reference::spoil::spoil;
+
+#[test]
+fn refusals_have_their_number_and_place() {
+    let mut unread = 0;
+    for case in cases::all() {
+        let found = File::open(&case.file).err();
+        assert_eq!(found.map(|refusal| (refusal.number(), refusal.place() as usize)), case.verdict, "{}", case.name);
+        unread += usize::from(found.is_some_and(|refusal| refusal.reason() == Reason::Unread));
+    }
+    assert!(unread > 20);
+}
+
+#[test]
+fn made_files() {
+    let mut n = Numbers::new(83);
+    for _ in 0..400 {
+        let mut octets = random_plan(3, 12, 8, &mut n).file();
+        if n.once_in(4) {
+            spoil(&mut octets, &mut n);
+        }
+        let (found, expected) = (File::open(&octets), verdict(&octets));
+        let (Ok(file), Ok(accepted)) = (&found, &expected) else {
+            assert_eq!(found.map_err(|r| (r.number(), r.place())).err(), expected.map_err(|r| (r.number, r.place)).err());
+            continue;
+        };
+        assert_eq!(Format::of(&octets), Format::Dual);
+        assert_eq!((file.parameter(), u64::from(file.site())), (Parameter::new(accepted.parameter), accepted.site));
+        let [year, month, day, hour, minute, second] = accepted.time;
+        assert_eq!(file.time().to_string(), format!("{year}-{month:02}-{day:02}T{hour:02}:{minute:02}:{second:02}Z"));
+        assert_eq!((file.cut_count(), file.cuts().len()), (accepted.cuts.len(), accepted.cuts.len()));
+        for (cut, of_cut) in file.cuts().zip(&accepted.cuts) {
+            let grid = of_cut.grid;
+            assert_eq!((cut.bin_count(), cut.ray_count(), cut.latitude()), (grid.bins, grid.rays, grid.latitude));
+            assert_eq!((cut.longitude() as u64, u64::from(cut.spacing()), u64::from(cut.start())), (grid.longitude, grid.dx, grid.dstart));
+            for ray in cut.rays() {
+                let cells = (0..grid.bins).map(|bin| of_cut.cell(ray.index(), bin).map(|z| of_cut.packing.value(z)));
+                assert_eq!(ray.values().collect::<Vec<_>>(), cells.collect::<Vec<_>>());
+                let bin = n.below(grid.bins);
+                assert_eq!(cut.value(ray.index(), bin), Ok(ray.value(bin)));
+                assert_eq!(ray.value(grid.bins), None);
+            }
+            assert_eq!(cut.ray(grid.rays).map_err(|refusal| refusal.number()), Err(10));
+            assert_eq!(cut.value(0, grid.bins).map_err(|refusal| refusal.number()), Err(10));
+        }
+        assert_eq!(file.cut(file.cut_count()).unwrap_err().number(), 10);
+    }
+}
+
+/// The template number decides, wherever the octets end.
+#[test]
+fn formats() {
+    let (base, dual) = (document_sample().file(), Plan::new(vec![random_cut(2, 2, &mut Numbers::new(84))]).file());
+    for len in 0..base.len() {
+        assert_eq!(Format::of(&base[..len]), Format::Base, "{len}");
+    }
+    for len in 0..dual.len() {
+        assert_eq!(Format::of(&dual[..len]), if len < 51 { Format::Base } else { Format::Dual }, "{len}");
+    }
+    let mut changed = dual;
+    changed[50] ^= 1;
+    assert_eq!(Format::of(&changed), Format::Base);
+}
+
+#[test]
+fn parameters_of_the_table() {
+    let named: Vec<u8> = (0..=255).filter(|number| Parameter::new(*number).name().is_some()).collect();
+    assert_eq!(named, [0, 1, 2, 194, 195, 196, 197, 198, 199, 201, 202, 205, 206]);
+    for number in named {
+        let parameter = Parameter::new(number);
+        assert_eq!((parameter.number(), parameter.abbreviation().map(str::len)), (number, Some(3)));
+    }
+    assert_eq!((Parameter::new(200).abbreviation(), Parameter::new(255).unit()), (None, None));
+}
