@@ -71,35 +71,7 @@ fn product_number(p: Product) -> usize
 fn number_of(refusal: FileRefusal) -> usize
     ensures { λ r. ⌜ r ≡ numberOf refusal ⌝ }
 {
-    match refusal {
-        FileRefusal::FileSize => 1,
-        FileRefusal::Section0 => 2,
-        FileRefusal::Frame(_) => 3,
-        FileRefusal::Length(_) => 4,
-        FileRefusal::Field(_) => 5,
-        FileRefusal::Points(_) => 6,
-        FileRefusal::Table(_) => 7,
-        FileRefusal::Bins(_) => 8,
-        FileRefusal::CutCount(_) => 9,
-        FileRefusal::BaseOfRuns(_) => 12,
-    }
-}
-
-fn place_of(refusal: FileRefusal) -> usize
-    ensures { λ r. ⌜ r ≡ placeOf refusal ⌝ }
-{
-    match refusal {
-        FileRefusal::FileSize => 0,
-        FileRefusal::Section0 => 0,
-        FileRefusal::Frame(at) => at,
-        FileRefusal::Length(at) => at,
-        FileRefusal::Field(at) => at,
-        FileRefusal::Points(at) => at,
-        FileRefusal::Table(at) => at,
-        FileRefusal::Bins(at) => at,
-        FileRefusal::CutCount(at) => at,
-        FileRefusal::BaseOfRuns(at) => at,
-    }
+    sections::number_of(refusal) as usize
 }
 
 fn least(a: usize, b: usize) -> usize
@@ -239,7 +211,7 @@ fn step(file: &[u8], p: Progress, words: &mut [u32], text: &mut [u8], at: usize)
 {
     match p {
         Progress::Refused(refusal) => {
-            let to = lines::put_refused(text, at, number_of(refusal), place_of(refusal));
+            let to = lines::put_refused(text, at, number_of(refusal), sections::place_of(refusal));
             Stepped {
                 at: to,
                 next: Progress::Finished,

@@ -84,7 +84,7 @@ pub fn tell_open(told: Opened, answer: &mut [u64; 10]) -> u32
         }
         Opened::Refused(why) => {
             answer[0] = crate::refusals::file_place(why);
-            crate::refusals::file_number(why)
+            sections::number_of(why)
         }
     }
 }

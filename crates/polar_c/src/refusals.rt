@@ -65,45 +65,17 @@ pub fn write_place(why: WriteRefusal) -> u64
 
 // ---- of the calls of a file
 
-pub fn file_number(why: FileRefusal) -> u32
-    ensures { λ r. ⌜ r ≡ numberOf why ⌝ }
-{
-    match why {
-        FileRefusal::FileSize => 1,
-        FileRefusal::Section0 => 2,
-        FileRefusal::Frame(_) => 3,
-        FileRefusal::Length(_) => 4,
-        FileRefusal::Field(_) => 5,
-        FileRefusal::Points(_) => 6,
-        FileRefusal::Table(_) => 7,
-        FileRefusal::Bins(_) => 8,
-        FileRefusal::CutCount(_) => 9,
-        FileRefusal::BaseOfRuns(_) => 12,
-    }
-}
-
 pub fn file_place(why: FileRefusal) -> u64
     ensures { λ r. ⌜ r ≡ placeOf why ⌝ }
 {
-    match why {
-        FileRefusal::FileSize => 0,
-        FileRefusal::Section0 => 0,
-        FileRefusal::Frame(at) => at as u64,
-        FileRefusal::Length(at) => at as u64,
-        FileRefusal::Field(at) => at as u64,
-        FileRefusal::Points(at) => at as u64,
-        FileRefusal::Table(at) => at as u64,
-        FileRefusal::Bins(at) => at as u64,
-        FileRefusal::CutCount(at) => at as u64,
-        FileRefusal::BaseOfRuns(at) => at as u64,
-    }
+    sections::place_of(why) as u64
 }
 
 pub fn ask_number(why: AskRefusal) -> u32
     ensures { λ r. ⌜ r ≡ askNumber why ⌝ }
 {
     match why {
-        AskRefusal::File(refusal) => file_number(refusal),
+        AskRefusal::File(refusal) => sections::number_of(refusal),
         AskRefusal::Argument => 10,
     }
 }
@@ -121,7 +93,7 @@ pub fn fill_number(why: FillRefusal) -> u32
     ensures { λ r. ⌜ r ≡ fillNumber why ⌝ }
 {
     match why {
-        FillRefusal::File(refusal) => file_number(refusal),
+        FillRefusal::File(refusal) => sections::number_of(refusal),
         FillRefusal::Argument => 10,
         FillRefusal::Room => 11,
     }

@@ -1,7 +1,7 @@
--- Document 01, "Refusal numbers": the number and the place of each refusal of a file. Place is the start of the section concerned, and 0 for 1 and 2.
+-- Document 01, "Refusal numbers", and wish 6 (14): the number and the place of each refusal of a file. Place is the start of the section concerned, and 0 for 1 and 2.
 use Prim.Native.Nat.{ℕ}
 use Rattle.sections.specs.declared.FileRefusal.{FileRefusal}
-use Rattle.sections.specs.declared.FileRefusal.the-variants.{FileSize, Section0, Frame, Length, Field, Points, Table, Bins, CutCount, BaseOfRuns}
+use Rattle.sections.specs.declared.FileRefusal.the-variants.{FileSize, Section0, Frame, Length, Field, Points, Table, Bins, CutCount, BaseOfRuns, Unread}
 
 abbrev pub numberOf : FileRefusal → ℕ
 numberOf FileSize = 1
@@ -14,6 +14,7 @@ numberOf (Table at) = 7
 numberOf (Bins at) = 8
 numberOf (CutCount at) = 9
 numberOf (BaseOfRuns at) = 12
+numberOf (Unread at) = 14
 
 abbrev pub placeOf : FileRefusal → ℕ
 placeOf FileSize = 0
@@ -26,3 +27,4 @@ placeOf (Table at) = at
 placeOf (Bins at) = at
 placeOf (CutCount at) = at
 placeOf (BaseOfRuns at) = at
+placeOf (Unread at) = at

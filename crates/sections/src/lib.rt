@@ -8,9 +8,10 @@ ghost use mathlib.Core.Path.{_≡_};
 ghost use mathlib.Core.Bool.{cond};
 ghost use Prim.Native.Nat.{_+_};
 ghost use Rattle.rules.specs.Fields.{lengthAt};
+ghost use Rattle.sections.specs.Refusal.{numberOf, placeOf};
 ghost use Rattle.sections.specs.Places.{firstIn};
 
-// Why a file is refused, one case for each of document 01's numbers, with the place of the section concerned: specs/Refusal.antt.
+// Why a file is refused, one case for each of document 01's numbers and for wish 6's, with the place of the section concerned: specs/Refusal.antt.
 pub enum FileRefusal {
     // 1: the lent file is under 20 or over 8,388,608 octets
     FileSize,
@@ -32,6 +33,8 @@ pub enum FileRefusal {
     CutCount(usize),
     // 12: V over 253, by which runs have no base
     BaseOfRuns(usize),
+    // 14: a packing or a scan mode that is not read (wish 6)
+    Unread(usize),
 }
 
 // The places of a cut's sections.
@@ -68,6 +71,42 @@ pub struct State {
     pub section3: usize,
     pub section4: usize,
     pub section5: usize,
+}
+
+pub fn number_of(refusal: FileRefusal) -> u32
+    ensures { λ r. ⌜ r ≡ numberOf refusal ⌝ }
+{
+    match refusal {
+        FileRefusal::FileSize => 1,
+        FileRefusal::Section0 => 2,
+        FileRefusal::Frame(_) => 3,
+        FileRefusal::Length(_) => 4,
+        FileRefusal::Field(_) => 5,
+        FileRefusal::Points(_) => 6,
+        FileRefusal::Table(_) => 7,
+        FileRefusal::Bins(_) => 8,
+        FileRefusal::CutCount(_) => 9,
+        FileRefusal::BaseOfRuns(_) => 12,
+        FileRefusal::Unread(_) => 14,
+    }
+}
+
+pub fn place_of(refusal: FileRefusal) -> usize
+    ensures { λ r. ⌜ r ≡ placeOf refusal ⌝ }
+{
+    match refusal {
+        FileRefusal::FileSize => 0,
+        FileRefusal::Section0 => 0,
+        FileRefusal::Frame(at) => at,
+        FileRefusal::Length(at) => at,
+        FileRefusal::Field(at) => at,
+        FileRefusal::Points(at) => at,
+        FileRefusal::Table(at) => at,
+        FileRefusal::Bins(at) => at,
+        FileRefusal::CutCount(at) => at,
+        FileRefusal::BaseOfRuns(at) => at,
+        FileRefusal::Unread(at) => at,
+    }
 }
 
 pub fn wide(x: u32) -> u64

@@ -70,14 +70,14 @@ file-place-requires c κs = search needs
 element-write-answer-11 : tie.Need-element-write-answer-11
 element-write-answer-11 c = search needs
 
-file-number-requires : tie.Need-file-number-requires
-file-number-requires c κs = search needs
+number-of-requires : tie.Need-number-of-requires
+number-of-requires c κs = search needs
 
 returns : tie.Need-returns
 returns c = rw (c .before .before .before .before .before .before .before .before .before .told .given .1, c .before .before .before .before .before .before .before .product-number .ensures) (refl, refl)
 
 returns-2 : tie.Need-returns-2
-returns-2 c = rw (c .before .before .before .told2 .given .1, c .before .file-place .ensures) (c .file-number .ensures, refl)
+returns-2 c = rw (c .before .before .before .told2 .given .1, c .before .file-place .ensures) (c .number-of .ensures, refl)
 
 pub tell-open-spec : {M : Type 1} → statement M
 tell-open-spec =
@@ -105,6 +105,6 @@ tell-open-spec =
     enum-known-told-2
     file-place-requires
     element-write-answer-11
-    file-number-requires
+    number-of-requires
     returns
     returns-2)

@@ -1,0 +1,4 @@
+pub mod Products
+pub mod Own
+pub mod Exact
+pub mod GoodCuts

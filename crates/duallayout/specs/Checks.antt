@@ -1,0 +1,44 @@
+-- Wish 6: the checks of sections 3, 4, 5 and 7 of a dual-polarisation file, in the wish's order: 4, 5, 14 (just after 5), 6.
+use Prim.Native.Nat.{ℕ}
+use mathlib.Core.List.{List, [], _∷_}
+use mathlib.Core.Bool.{cond, _&&_}
+use lib.Dec.{leb, eqb}
+use Rattle.rules.specs.Rules.{field, meets, meetsAll}
+use Rattle.rules.specs.Fields.{lengthAt, pointsAt, parameterAt}
+use Rattle.scaled.specs.Scaled.{finiteSingle}
+use Rattle.sections.specs.Checks.{Context, Check, check, Own}
+use Rattle.sections.specs.declared.FileRefusal.the-variants.{Length, Field, Points, Unread}
+use Rattle.duallayout.specs.Rules.{rules3, scanRules, rules4, rules5, widthRule}
+use Rattle.duallayout.specs.Fields.{length3, least4, siteAt, referenceAt, length7}
+
+abbrev pub checks3 : List ℕ → ℕ → List Check
+checks3 s at =
+    check (Length at) (eqb (lengthAt s at) (length3 s at))
+    ∷ check (Field at) (meetsAll s at rules3)
+    ∷ check (Unread at) (meetsAll s at scanRules)
+    ∷ check (Points at) (eqb (field s at 7 4) (pointsAt s at))
+    ∷ []
+
+abbrev pub checks4 : List ℕ → Context → ℕ → List Check
+checks4 s x at =
+    check (Length at) (leb (least4 s (x .section3) at) (lengthAt s at))
+    ∷ check (Field at) (meetsAll s at (rules4 (parameterAt s (x .first)) (siteAt s (x .first))))
+    ∷ []
+
+abbrev pub checks5 : List ℕ → Context → ℕ → List Check
+checks5 s x at =
+    check (Length at) (eqb (lengthAt s at) 21)
+    ∷ check (Field at) (meetsAll s at rules5)
+    ∷ check (Unread at) (finiteSingle (referenceAt s at) && meets s at widthRule)
+    ∷ check (Points at) (eqb (field s at 6 4) (pointsAt s (x .section3)))
+    ∷ []
+
+abbrev pub checks7 : List ℕ → Context → ℕ → List Check
+checks7 s x at = check (Length at) (eqb (lengthAt s at) (length7 s (x .section3) (x .section5))) ∷ []
+
+unfoldable pub ownChecks : Own
+ownChecks s x at n =
+    cond (eqb n 3) (checks3 s at)
+    (cond (eqb n 4) (checks4 s x at)
+    (cond (eqb n 5) (checks5 s x at)
+    (cond (eqb n 7) (checks7 s x at) [])))

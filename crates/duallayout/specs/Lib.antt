@@ -1,0 +1,7 @@
+pub mod Rules
+pub mod Fields
+pub mod Checks
+pub mod Verdict
+pub mod Accepted
+pub mod Parts
+pub mod Good

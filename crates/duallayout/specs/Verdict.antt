@@ -1,0 +1,17 @@
+-- The verdict on any octets as a dual-polarisation file, to compute; and which octets are refused, by which number and at which place.
+use Prim.Native.Nat.{ℕ}
+use mathlib.Core.List.{List}
+use Rattle.sections.specs.Verdict.{Verdict, verdictBy}
+use Rattle.sections.specs.Refused as R
+use Rattle.sections.specs.declared.FileRefusal.{FileRefusal}
+use Rattle.duallayout.specs.Checks.{ownChecks}
+
+abbrev pub verdict : List ℕ → Verdict
+verdict = verdictBy ownChecks
+
+abbrev pub RefusedBy : List ℕ → FileRefusal → Type 0
+RefusedBy = R.RefusedBy ownChecks
+
+-- the same by number and place
+abbrev pub RefusedAt : List ℕ → ℕ → ℕ → Type 0
+RefusedAt = R.RefusedAt ownChecks
