@@ -18,7 +18,7 @@ use Rattle.layout.specs.Verdict.{verdict, RefusedBy}
 use Rattle.layout.specs.Accepted.{Accepted}
 use Rattle.sections.specs.declared.Cut.{Cut}
 use Rattle.sections.specs.declared.FileRefusal.{FileRefusal}
-use Rattle.layout.proofs.Exact.{accepted-only, refused-only, refused-all}
+use Rattle.layout.proofs.Exact.{exact}
 use Rattle.values.specs.Reading.{readingOf}
 use Rattle.values.specs.declared.Reading.{Reading}
 use Rattle.values.specs.declared.Reading.the-variants as N
@@ -55,12 +55,12 @@ unfolding onCut
 by-verdict bad no-cut some s i a P kr kn ks h = go (verdict s) refl h
   where
     go : (v : Verdict) → verdict s ≡ v → onCut bad no-cut some i v ≡ a → P
-    go (refused r) e x = kr r (refused-only s r e) x
+    go (refused r) e x = kr r (exact .refused-only s r e) x
     go (accepted cs) e x = split (ltb i (length cs)) refl x
       where
         split : (t : Bool) → ltb i (length cs) ≡ t → cond t (some (getD cs i noCut)) no-cut ≡ a → P
-        split true p y = ks cs (accepted-only s cs e) (ltb-true _ _ p) y
-        split false p y = kn cs (accepted-only s cs e) (ltb-false _ _ p) y
+        split true p y = ks cs (exact .accepted-only s cs e) (ltb-true _ _ p) y
+        split false p y = kn cs (exact .accepted-only s cs e) (ltb-false _ _ p) y
 
 -- ── open ──
 
@@ -69,12 +69,12 @@ unfolding openAnswer
 open-refused s r p = go (verdict s) refl (p .answer)
   where
     go : (v : Verdict) → verdict s ≡ v → O.Refused r ≡ opened s v → RefusedBy s r
-    go (refused q) e h = let same : r ≡ q = cc in refused-only s r (e ∙ ap refused (sym same))
+    go (refused q) e h = let same : r ≡ q = cc in exact .refused-only s r (e ∙ ap refused (sym same))
     go (accepted cs) e h = let z : _≡_ {A = ℕ} 0 1 = cc in absurd (omega arith)
 
 pub refused-open : (s : List ℕ) (r : FileRefusal) (a : Opened) → RefusedBy s r → OpenPromise s a → a ≡ O.Refused r
 unfolding openAnswer
-refused-open s r a h p = p .answer ∙ ap (opened s) (refused-all s r h)
+refused-open s r a h p = p .answer ∙ ap (opened s) (exact .refused-all s r h)
 
 -- ── cut ──
 

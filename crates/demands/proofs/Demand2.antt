@@ -33,7 +33,7 @@ use Rattle.layout.specs.Accepted.{Accepted}
 use Rattle.layout.specs.Good.{GoodCut}
 use Rattle.sections.specs.declared.Cut.{Cut}
 use Rattle.sections.specs.declared.FileRefusal.{FileRefusal}
-use Rattle.layout.proofs.Exact.{accepted-only, accepted-all}
+use Rattle.layout.proofs.Exact.{exact}
 use Rattle.layout.proofs.GoodCuts.{good-accepted}
 use Rattle.cuts.specs.Bins.{rayIn}
 use Rattle.cuts.proofs.Places.{data-opens, all-bins, level-few}
@@ -57,7 +57,7 @@ use Rattle.demands.proofs.Lent.{front-at, front-past, over-beyond}
 
 pub accepted-open : (s : List ℕ) (cs : List Cut) (r : Opened) → Accepted s cs → OpenPromise s r → r ≡ O.File (summaryOf s (length cs) (getD cs 0 noCut))
 unfolding openAnswer
-accepted-open s cs r a p = p .answer ∙ ap (opened s) (accepted-all s cs a)
+accepted-open s cs r a p = p .answer ∙ ap (opened s) (exact .accepted-all s cs a)
 
 pub record AcceptedAs (s : List ℕ) (m : Summary) : Type 0 where
   pub cs : List Cut
@@ -69,7 +69,7 @@ unfolding openAnswer
 open-accepted s m p = go (verdict s) refl (p .answer)
   where
     go : (v : Verdict) → verdict s ≡ v → O.File m ≡ opened s v → AcceptedAs s m
-    go (accepted cs) e h = record { cs = cs; accepts = accepted-only s cs e; summary = cc }
+    go (accepted cs) e h = record { cs = cs; accepts = exact .accepted-only s cs e; summary = cc }
     go (refused r) e h = let z : _≡_ {A = ℕ} 0 1 = cc in absurd (omega arith)
 
 -- ── a cut of an accepted file ──
@@ -83,11 +83,11 @@ module _ (s : List ℕ) (cs : List Cut) (a : Accepted s cs) (i : ℕ) (lt : i < 
 
   pub on-accepted : {A : Type 0} (bad : FileRefusal → A) (no-cut : A) (some : Cut → A) → onCut bad no-cut some i (verdict s) ≡ some cut
   unfolding onCut
-  on-accepted bad no-cut some = ap (onCut bad no-cut some i) (accepted-all s cs a) ∙ rw (lt-ltb i (length cs) lt)
+  on-accepted bad no-cut some = ap (onCut bad no-cut some i) (exact .accepted-all s cs a) ∙ rw (lt-ltb i (length cs) lt)
 
   pub cut-is : cutAt i (verdict s) ≡ cut
   unfolding cutAt
-  cut-is = ap (cutAt i) (accepted-all s cs a)
+  cut-is = ap (cutAt i) (exact .accepted-all s cs a)
 
   -- its data decodes, by template 7.200, to exactly Nb x Nr levels: these are its bins
   pub bins-decode : Decodes (greatestIn s cut) (dataAt s (cut .section7)) (levelsIn s cut) × (length (levelsIn s cut) ≡ raysIn s cut * binsIn s cut)

@@ -143,7 +143,7 @@ fn judge5(s: &[u8], st: State) -> Judged
     sections::unless(len == 21, FileRefusal::Length(at), past4)
 }
 
-fn judge7(s: &[u8], st: State) -> Judged
+pub fn judge7(s: &[u8], st: State) -> Judged
     requires { ⌜ pointsAt (now s) (st .section3) ≤ 2097152 ⌝ }
     ensures { λ r. ⌜ r ≡ firstFault (checks7 (now (s .entry)) (contextIn st) (st .at)) ⌝ }
 {

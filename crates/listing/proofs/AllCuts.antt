@@ -9,7 +9,7 @@ use Rattle.layout.specs.Verdict.{verdict}
 use Rattle.layout.specs.Accepted.{Accepted}
 use Rattle.layout.specs.Good.{GoodCut}
 use Rattle.sections.specs.declared.Cut.{Cut}
-use Rattle.layout.proofs.Exact.{accepted-only}
+use Rattle.layout.proofs.Exact.{exact}
 use Rattle.layout.proofs.GoodCuts.{good-accepted}
 use Rattle.cuts.specs.After.{cutAfter}
 use Rattle.cuts.proofs.After.{next-is}
@@ -20,7 +20,7 @@ of-cuts : (s : List ℕ) (P : List Cut → Type 0) → ((cs : List Cut) → Acce
 of-cuts s P some none = go (verdict s) refl
   where
     go : (v : Verdict) → verdict s ≡ v → P (cutsBy v)
-    go (accepted cs) h = some cs (accepted-only s cs h)
+    go (accepted cs) h = some cs (exact .accepted-only s cs h)
     go (refused r) h = none
 
 pub good-in : (s : List ℕ) (i : ℕ) → i < length (cutsIn s) → GoodCut s (getD (cutsIn s) i noCut)
@@ -35,4 +35,4 @@ next-in s i =
 
 -- an accepted file has a cut
 pub some-cut : (s : List ℕ) (cs : List Cut) → verdict s ≡ accepted cs → 0 < length cs
-some-cut s cs h = let p = accepted-only s cs h .past in omega (arith, ap length (p .are))
+some-cut s cs h = let p = exact .accepted-only s cs h .past in omega (arith, ap length (p .are))

@@ -1,5 +1,5 @@
--- THE THEOREMS: `verdict` refuses exactly the files of `RefusedBy` and accepts exactly those of `Accepted`, so that a reader who believes these
--- two and the rule lists needs to believe nothing else of the layout.
+-- THE THEOREM, of every format whose checks say what it says of its sections: its verdict accepts and refuses exactly the right files (`Exact`), so that
+-- a reader who believes `AcceptedBy`, `RefusedBy` and the rule lists needs to believe nothing else of the layout.
 use Prim.Native.Nat.{ℕ, _-_}
 use mathlib.Core.Path.{_≡_, refl, sym, _∙_, ap, subst}
 use mathlib.Core.List.{List, []}
@@ -19,6 +19,7 @@ use Rattle.sections.specs.Refused.{RightSize, RefusedBy, size, head, sec
 use Rattle.sections.specs.declared.Cut.{Cut}
 use Rattle.sections.specs.declared.FileRefusal.{FileRefusal}
 use Rattle.sections.specs.declared.FileRefusal.the-variants.{FileSize, Section0}
+use Rattle.sections.specs.Exact.{Exact}
 use Rattle.sections.proofs.Sections.{accepted-same, refused-same, refused-not-accepted, stopped, refuses, through, accepts as sections-accept, count-cuts}
 use Rattle.sections.proofs.Own.{Says}
 use Rattle.sections.proofs.Grammar.{past-off, past-on}
@@ -129,3 +130,16 @@ module _ (o : Own) (kinds : Kinds) (says : Says o kinds) where
   -- and never both
   pub not-both : (s : List ℕ) (cs : List Cut) (r : FileRefusal) → AcceptedBy kinds s cs → RefusedBy o s r → ⊥
   not-both s cs r a b = refused-not-accepted r cs (sym (refused-all o s r b) ∙ accepted-all s cs a)
+
+  pub exact : Exact o kinds
+  exact =
+      record {
+        refused-only = refused-only o;
+        refused-all = refused-all o;
+        refused-at = refused-at o;
+        accepted-only = accepted-only;
+        accepted-all = accepted-all;
+        accepted-one = accepted-one;
+        refused-one = refused-one o;
+        not-both = not-both;
+      }

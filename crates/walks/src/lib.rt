@@ -1,5 +1,6 @@
 // The walk over the sections of a file, which answers the verdict on any octets: accepted, with the number of cuts and the places of one cut's sections;
-// or the refusal. Below it stand `sections` (what every file has) and `layout` (run-length packed files); above it `polar` and `listing`, the calls.
+// or the refusal. One walk for both formats, which differ in the checks of their own sections alone. Below it stand `sections` (what every file has),
+// `layout` (run-length packed files) and `duallayout` (dual-polarisation files); above it `polar`, `listing` and `dualpol`, the calls.
 use sections::Cut;
 use sections::FileRefusal;
 use sections::Found;
@@ -13,11 +14,18 @@ ghost use lib.ListN.{length};
 ghost use lib.Dec.{leb};
 ghost use Rattle.rules.specs.Fields.{lengthAt, pointsAt};
 ghost use Rattle.sections.specs.Checks.{follows, framed, roomForCut, closes, checks1, checks6, sectionChecks, checksAt};
-ghost use Rattle.sections.specs.Verdict.{firstFault, sections, answerFor};
+ghost use Rattle.sections.specs.Verdict.{firstFault, sections, verdictBy, answerFor};
 ghost use Rattle.sections.specs.Places.{contextIn};
-ghost use Rattle.layout.specs.Checks.{ownChecks};
 ghost use Rattle.layout.specs.Verdict.{verdict};
+ghost use Rattle.duallayout.specs.Verdict.{verdict as dualVerdict};
+ghost use Rattle.walks.specs.Formats.{ownOf};
 ghost use Rattle.walks.specs.Walk.{past, cutEnded, chosenAfter, Sound, stepOf};
+
+// What a file is read as.
+enum Format {
+    RunLength,
+    DualPolarisation,
+}
 
 enum Step {
     Next(State),
@@ -83,11 +91,35 @@ fn has_room(s: &[u8], st: State) -> bool
     !((64 <= st.cuts) & ((n == 3) | (n == 4)))
 }
 
-// The checks of the section's own kind: 1 and 6 are every format's.
-fn judge(s: &[u8], st: State, n: u8) -> Judged
+// The checks of a section 7.
+fn judge7(format: Format, s: &[u8], st: State) -> Judged
+    requires { ⌜ st .at + lengthAt (now s) (st .at) ≤ length (now s) ⌝ }
+    requires { ⌜ pointsAt (now s) (st .section3) ≤ 2097152 ⌝ }
+    ensures { λ r. ⌜ r ≡ firstFault (ownOf format (now (s .entry)) (contextIn st) (st .at) 7) ⌝ }
+{
+    match format {
+        Format::RunLength => layout::judge7(s, st),
+        Format::DualPolarisation => duallayout::judge7(s, st),
+    }
+}
+
+// The checks of the format's own sections.
+fn judge_own(format: Format, s: &[u8], st: State, n: u8) -> Judged
     requires { ⌜ st .at + lengthAt (now s) (st .at) ≤ length (now s) ⌝ }
     requires { ⌜ (n ≡ 7 → pointsAt (now s) (st .section3) ≤ 2097152) ⌝ }
-    ensures { λ r. ⌜ r ≡ firstFault (sectionChecks ownChecks (now (s .entry)) (contextIn st) (st .at) n) ⌝ }
+    ensures { λ r. ⌜ r ≡ firstFault (ownOf format (now (s .entry)) (contextIn st) (st .at) n) ⌝ }
+{
+    match format {
+        Format::RunLength => layout::judge(s, st, n),
+        Format::DualPolarisation => duallayout::judge(s, st, n),
+    }
+}
+
+// The checks of the section's own kind: 1 and 6 are every format's.
+fn judge(format: Format, s: &[u8], st: State, n: u8) -> Judged
+    requires { ⌜ st .at + lengthAt (now s) (st .at) ≤ length (now s) ⌝ }
+    requires { ⌜ (n ≡ 7 → pointsAt (now s) (st .section3) ≤ 2097152) ⌝ }
+    ensures { λ r. ⌜ r ≡ firstFault (sectionChecks (ownOf format) (now (s .entry)) (contextIn st) (st .at) n) ⌝ }
 {
     if n == 1 {
         return judge1(s, st);
@@ -95,7 +127,7 @@ fn judge(s: &[u8], st: State, n: u8) -> Judged
     if n == 6 {
         return judge6(s, st);
     }
-    layout::judge(s, st, n)
+    judge_own(format, s, st, n)
 }
 
 // Whether `7777` stands at the cursor, after a 7.
@@ -108,9 +140,9 @@ fn is_closed(s: &[u8], st: State) -> bool
 
 // All the checks at the cursor, in order: 3, 9, then the section's own. No cut begins with a section 7, so 9 is not asked there and it goes straight
 // to its checks: the compiler then makes a better loop of the scan, where nearly all the time goes.
-fn judge_here(s: &[u8], end: usize, st: State) -> Judged
+fn judge_here(format: Format, s: &[u8], end: usize, st: State) -> Judged
     requires { ⌜ Sound (now s) end st ⌝ }
-    ensures { λ r. ⌜ r ≡ firstFault (checksAt ownChecks (now (s .entry)) end (contextIn st) (st .at)) ⌝ }
+    ensures { λ r. ⌜ r ≡ firstFault (checksAt (ownOf format) (now (s .entry)) end (contextIn st) (st .at)) ⌝ }
 {
     let at = st.at;
     if at == end {
@@ -119,9 +151,13 @@ fn judge_here(s: &[u8], end: usize, st: State) -> Judged
     if is_framed(s, end, st) {
         let n = rules::field8(s, at, 5);
         if n == 7 {
-            return layout::judge7(s, st);
+            return judge7(format, s, st);
         }
-        return sections::unless(has_room(s, st), FileRefusal::CutCount(at), judge(s, st, n));
+        return sections::unless(
+            has_room(s, st),
+            FileRefusal::CutCount(at),
+            judge(format, s, st, n),
+        );
     }
     Judged::Wrong(FileRefusal::Frame(at))
 }
@@ -148,12 +184,12 @@ fn passed(st: State, n: u8, len: usize) -> State
 }
 
 // One step of the walk: the checks at the cursor, and past the section where they hold.
-fn one_step(s: &[u8], end: usize, st: State) -> Step
+fn one_step(format: Format, s: &[u8], end: usize, st: State) -> Step
     requires { ⌜ Sound (now s) end st ⌝ }
-    ensures { λ r. ⌜ r ≡ stepOf ownChecks (now (s .entry)) end st ⌝ }
+    ensures { λ r. ⌜ r ≡ stepOf (ownOf format) (now (s .entry)) end st ⌝ }
 {
     let at = st.at;
-    match judge_here(s, end, st) {
+    match judge_here(format, s, end, st) {
         Judged::Wrong(refusal) => Step::Refused(refusal),
         Judged::Fine => {
             if at == end {
@@ -193,9 +229,9 @@ fn chosen_after(want: usize, st: State, n: u8, chosen: Cut) -> Cut
 }
 
 // Section after section up to `end`, from section 1 on.
-fn walk_to(s: &[u8], end: usize, want: usize) -> Walked
+fn walk_to(format: Format, s: &[u8], end: usize, want: usize) -> Walked
     requires { ⌜ (16 ≤ end) × (end + 4 ≤ length (now s)) ⌝ }
-    ensures { λ r. ⌜ r ≡ answerFor want (sections ownChecks (length (now (s .entry))) (now (s .entry)) end [] 16) ⌝ }
+    ensures { λ r. ⌜ r ≡ answerFor want (sections (ownOf format) (length (now (s .entry))) (now (s .entry)) end [] 16) ⌝ }
 {
     let mut st = State {
         at: 16,
@@ -213,7 +249,7 @@ fn walk_to(s: &[u8], end: usize, want: usize) -> Walked
         section7: 0,
     };
     loop {
-        match one_step(s, end, st) {
+        match one_step(format, s, end, st) {
             Step::Done => {
                 return Walked::Whole(Found {
                     cuts: st.cuts,
@@ -231,9 +267,8 @@ fn walk_to(s: &[u8], end: usize, want: usize) -> Walked
     }
 }
 
-// The verdict on any octets, with the number of cuts and the places of cut `want`.
-pub fn walk(s: &[u8], want: usize) -> Walked
-    ensures { λ r. ⌜ r ≡ answerFor want (verdict (now (s .entry))) ⌝ }
+fn walk_as(format: Format, s: &[u8], want: usize) -> Walked
+    ensures { λ r. ⌜ r ≡ answerFor want (verdictBy (ownOf format) (now (s .entry))) ⌝ }
 {
     let n = s.len();
     if n < 20 {
@@ -243,7 +278,21 @@ pub fn walk(s: &[u8], want: usize) -> Walked
         return Walked::Rejected(FileRefusal::FileSize);
     }
     if rules::fields0(s) {
-        return walk_to(s, n - 4, want);
+        return walk_to(format, s, n - 4, want);
     }
     Walked::Rejected(FileRefusal::Section0)
+}
+
+// The verdict on any octets as a run-length packed file, with the number of cuts and the places of cut `want`.
+pub fn walk(s: &[u8], want: usize) -> Walked
+    ensures { λ r. ⌜ r ≡ answerFor want (verdict (now (s .entry))) ⌝ }
+{
+    walk_as(Format::RunLength, s, want)
+}
+
+// The same as a dual-polarisation file.
+pub fn walk_dual(s: &[u8], want: usize) -> Walked
+    ensures { λ r. ⌜ r ≡ answerFor want (dualVerdict (now (s .entry))) ⌝ }
+{
+    walk_as(Format::DualPolarisation, s, want)
 }

@@ -21,13 +21,13 @@ unfolding sectionChecks
 returns-2 c = let n = c .before .before .before .before .args .n in
     rw (ne-eqb n 1 (c .before .before .if1 .left), eq-eqb n 6 (c .before .if2 .taken)) (c .judge6 .ensures)
 
-judge-requires : tie.Need-judge-requires
-judge-requires c κs = search needs
+judge-own-requires : tie.Need-judge-own-requires
+judge-own-requires c κs = search needs
 
 returns-3 : tie.Need-returns-3
 unfolding sectionChecks
 returns-3 c = let n = c .before .before .before .before .args .n in
-    rw (ne-eqb n 1 (c .before .before .if1 .left), ne-eqb n 6 (c .before .if2 .left)) (c .judge .ensures)
+    rw (ne-eqb n 1 (c .before .before .if1 .left), ne-eqb n 6 (c .before .if2 .left)) (c .judge-own .ensures)
 
 pub judge-spec : {M : Type 1} → statement M
-judge-spec = tie.close (tie.spec judge1-requires returns judge6-requires returns-2 judge-requires returns-3)
+judge-spec = tie.close (tie.spec judge1-requires returns judge6-requires returns-2 judge-own-requires returns-3)

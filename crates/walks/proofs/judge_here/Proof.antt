@@ -3,9 +3,9 @@
 use Rattle.sections.proofs.Framed.{framed-is}
 use Rattle.sections.proofs.Order.{past-three}
 use Rattle.sections.specs.Places.{contextIn}
-use Rattle.sections.specs.Checks.{Context, framed, roomForCut, sectionChecks, checksAt}
-use Rattle.layout.specs.Checks.{checks7, ownChecks}
+use Rattle.sections.specs.Checks.{Context, Own, framed, roomForCut, sectionChecks, checksAt}
 use Rattle.sections.specs.Verdict.{firstFault}
+use Rattle.walks.specs.Formats.{ownOf}
 use Rattle.rules.specs.Fields.{lengthAt, numberAt, pointsAt}
 use Prim.Native.Nat.{ℕ, _+_, _≤_}
 use mathlib.Core.List.{List}
@@ -55,15 +55,15 @@ judge7-requires c κs = let w = asked (c .before) in
     (w .0, w .1 (c .if3 .taken))
 
 -- a framed section 7 has its own checks alone: there is room, since no cut begins
-seven : (s : List ℕ) (end : ℕ) (x : Context) (at : ℕ) → (at ≡ end → ⊥) → framed s end x at ≡ true → numberAt s at ≡ 7
-    → firstFault (checks7 s x at) ≡ firstFault (checksAt ownChecks s end x at)
-unfolding checksAt roomForCut sectionChecks ownChecks
-seven s end x at h f n = rw (ne-eqb at end h, f, n, and-false)
+seven : (own : Own) (s : List ℕ) (end : ℕ) (x : Context) (at : ℕ) → (at ≡ end → ⊥) → framed s end x at ≡ true → numberAt s at ≡ 7
+    → firstFault (own s x at 7) ≡ firstFault (checksAt own s end x at)
+unfolding checksAt roomForCut sectionChecks
+seven own s end x at h f n = rw (ne-eqb at end h, f, n, and-false)
 
 returns-2 : tie.Need-returns-2
 unfolding numberAt
 returns-2 c = let a = c .before .before .before .before .before .before .before .args in
-    c .judge7 .ensures ∙ seven (now (a .s)) (a .end) (contextIn (a .st)) (a .st .at) (c .before .before .before .before .before .if1 .left) (sym (c .before .before .before .before .is-framed .ensures) ∙ c .before .before .before .if2 .taken) (sym (c .before .before .field8 .ensures) ∙ c .before .if3 .taken)
+    c .judge7 .ensures ∙ seven (ownOf (a .format)) (now (a .s)) (a .end) (contextIn (a .st)) (a .st .at) (c .before .before .before .before .before .if1 .left) (sym (c .before .before .before .before .is-framed .ensures) ∙ c .before .before .before .if2 .taken) (sym (c .before .before .field8 .ensures) ∙ c .before .if3 .taken)
 
 has-room-requires : tie.Need-has-room-requires
 has-room-requires c κs = search needs

@@ -4,7 +4,7 @@ use Rattle.sections.proofs.Faults.{fine-framed}
 use Rattle.walks.specs.declared.Step.the-variants.{Next}
 use Rattle.sections.specs.Places.{contextIn}
 use Rattle.walks.specs.Walk.{past}
-use Rattle.layout.specs.Checks.{ownChecks}
+use Rattle.walks.specs.Formats.{ownOf}
 use Rattle.rules.specs.Fields.{lengthAt, numberAt}
 use denote.Ref.{now}
 use native.Mathlib.Omega.{arith}
@@ -25,7 +25,7 @@ enum-told c = search needs
 
 returns : tie.Need-returns
 returns c = let a = c .before .before .before .before .before .args in
-    sym (step-done ownChecks (now (a .s)) (a .end) (a .st) (sym (c .before .before .before .judge-here .ensures) ∙ c .before .enum-told .given .1) (c .if1 .taken))
+    sym (step-done (ownOf (a .format)) (now (a .s)) (a .end) (a .st) (sym (c .before .before .before .judge-here .ensures) ∙ c .before .enum-told .given .1) (c .if1 .taken))
 
 field8-requires : tie.Need-field8-requires
 field8-requires c κs = search needs
@@ -40,7 +40,7 @@ passed-requires : tie.Need-passed-requires
 unfolding lengthAt
 passed-requires c κs = let a = c .before .before .before .before .before .before .before .before .args in
     let s = now (a .s) in
-    let fr = fine-framed ownChecks s (a .end) (contextIn (a .st)) (a .st .at) (c .before .before .before .if1 .left) (sym (c .before .before .before .before .before .before .judge-here .ensures) ∙ c .before .before .before .before .enum-told .given .1) in
+    let fr = fine-framed (ownOf (a .format)) s (a .end) (contextIn (a .st)) (a .st .at) (c .before .before .before .if1 .left) (sym (c .before .before .before .before .before .before .judge-here .ensures) ∙ c .before .before .before .before .enum-told .given .1) in
     let reach : a .st .at + lengthAt s (a .st .at) ≤ a .end = fr .reach in
     let inside = c .before .before .before .before .before .before .before .before .pre .end-in in
     let few = c .before .before .before .before .before .before .before .before .pre .few in
@@ -49,7 +49,7 @@ passed-requires c κs = let a = c .before .before .before .before .before .befor
 
 returns-2 : tie.Need-returns-2
 returns-2 c = let a = c .before .before .before .before .before .args in
-    sym (step-refused ownChecks (now (a .s)) (a .end) (a .st) _ (sym (c .before .before .before .judge-here .ensures) ∙ c .before .refusal .given .1))
+    sym (step-refused (ownOf (a .format)) (now (a .s)) (a .end) (a .st) _ (sym (c .before .before .before .judge-here .ensures) ∙ c .before .refusal .given .1))
 
 returns-3 : tie.Need-returns-3
 unfolding lengthAt numberAt
@@ -58,7 +58,7 @@ returns-3 c = let a = c .before .before .before .before .before .before .before 
     let n = c .before .before .before .field8 .ensures in
     let len = c .before .place .ensures ∙ c .before .before .field32 .ensures in
     ap Next (c .passed .ensures ∙ (λ i. past (a .st) (n i) (len i)))
-    ∙ sym (step-next ownChecks s (a .end) (a .st) (sym (c .before .before .before .before .before .before .before .judge-here .ensures) ∙ c .before .before .before .before .before .enum-told .given .1) (c .before .before .before .before .if1 .left))
+    ∙ sym (step-next (ownOf (a .format)) s (a .end) (a .st) (sym (c .before .before .before .before .before .before .before .judge-here .ensures) ∙ c .before .before .before .before .before .enum-told .given .1) (c .before .before .before .before .if1 .left))
 
 pub one-step-spec : {M : Type 1} → statement M
 one-step-spec =

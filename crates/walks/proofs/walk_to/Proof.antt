@@ -1,8 +1,8 @@
 -- The loop's invariant is `Along` (Along.antt): the state mirrors the history, and the verdict from here on is the whole verdict.
 use borrow.Author.Needs.{needs}
 use Rattle.walks.proofs.Along.{Along, along-start, along-next, along-done, along-refused, further}
-use Rattle.layout.specs.Checks.{ownChecks}
-use Rattle.layout.proofs.Own.{few-points}
+use Rattle.walks.specs.Formats.{ownOf}
+use Rattle.walks.proofs.Few.{few-of}
 use native.Mathlib.Omega.{arith}
 use mathlib.Core.Path.{sym, _∙_}
 use Prim.Native.Nat.{_-_}
@@ -10,13 +10,13 @@ use Rattle.walks.proofs.walk_to.Statement.{statement}
 use Rattle.walks.proofs.walk_to.Tie as tie
 
 abbrev Inv-loop : tie.InvT-loop
-Inv-loop s end want st₀ chosen₀ st chosen = Along ownChecks s end want st chosen
+Inv-loop format s end want st₀ chosen₀ st chosen = Along (ownOf format) s end want st chosen
 
 abbrev μ-loop : tie.MeasureT-loop
-μ-loop s end want st₀ chosen₀ st chosen = end - st .at
+μ-loop format s end want st₀ chosen₀ st chosen = end - st .at
 
 loop-holds : tie.Need-loop-holds Inv-loop μ-loop
-loop-holds c = along-start ownChecks _ _ _ (c .before .pre .0) (c .before .pre .1)
+loop-holds c = along-start _ _ _ _ (c .before .pre .0) (c .before .pre .1)
 
 one-step-requires : tie.Need-one-step-requires Inv-loop μ-loop
 one-step-requires c κs = c .loop .inv .sound
@@ -25,13 +25,13 @@ enum-told : tie.Need-enum-told Inv-loop μ-loop
 enum-told c = search needs
 
 returns : tie.Need-returns Inv-loop μ-loop
-returns c = let i = c .before .before .before .loop in along-done ownChecks few-points _ _ _ _ _ (i .inv) (sym (c .before .before .one-step .ensures) ∙ c .enum-told .given .1)
+returns c = let i = c .before .before .before .loop in along-done _ (few-of (c .before .before .before .before .before .args .format)) _ _ _ _ _ (i .inv) (sym (c .before .before .one-step .ensures) ∙ c .enum-told .given .1)
 
 enum-known-refusal : tie.Need-enum-known-refusal Inv-loop μ-loop
 enum-known-refusal c = search needs
 
 returns-2 : tie.Need-returns-2 Inv-loop μ-loop
-returns-2 c = let i = c .before .before .before .before .loop in along-refused ownChecks few-points _ _ _ _ _ (i .inv) _ (sym (c .before .before .before .one-step .ensures) ∙ c .before .refusal .given .1)
+returns-2 c = let i = c .before .before .before .before .loop in along-refused _ (few-of (c .before .before .before .before .before .before .args .format)) _ _ _ _ _ (i .inv) _ (sym (c .before .before .before .one-step .ensures) ∙ c .before .refusal .given .1)
 
 enum-known-next : tie.Need-enum-known-next Inv-loop μ-loop
 enum-known-next c = search needs
@@ -42,12 +42,12 @@ chosen-after-requires c κs = search needs
 loop-less : tie.Need-loop-less Inv-loop μ-loop
 loop-less c = let i = c .before .before .before .before .before .loop in
     let inside = i .inv .inside in
-    let f = further ownChecks few-points _ _ _ _ _ (i .inv) (c .before .before .next .given .0 .0) (sym (c .before .before .before .before .one-step .ensures) ∙ c .before .before .next .given .1) in
+    let f = further _ (few-of (c .before .before .before .before .before .before .before .args .format)) _ _ _ _ _ (i .inv) (c .before .before .next .given .0 .0) (sym (c .before .before .before .before .one-step .ensures) ∙ c .before .before .next .given .1) in
     omega arith
 
 loop-again : tie.Need-loop-again Inv-loop μ-loop
 loop-again c = let i = c .before .before .before .before .before .loop in
-    rw (c .chosen-after .ensures) (along-next ownChecks few-points _ _ _ _ _ (i .inv) (c .before .before .next .given .0 .0) (sym (c .before .before .before .before .one-step .ensures) ∙ c .before .before .next .given .1))
+    rw (c .chosen-after .ensures) (along-next _ (few-of (c .before .before .before .before .before .before .before .args .format)) _ _ _ _ _ (i .inv) (c .before .before .next .given .0 .0) (sym (c .before .before .before .before .one-step .ensures) ∙ c .before .before .next .given .1))
 
 pub walk-to-spec : {M : Type 1} → statement M
 walk-to-spec =

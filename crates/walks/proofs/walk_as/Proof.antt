@@ -6,8 +6,8 @@ use lib.ListN.{length}
 use denote.Ref.{now}
 use mathlib.Core.Path.{sym, _∙_}
 use borrow.Author.Needs.{needs}
-use Rattle.walks.proofs.walk.Statement.{statement}
-use Rattle.walks.proofs.walk.Tie as tie
+use Rattle.walks.proofs.walk_as.Statement.{statement}
+use Rattle.walks.proofs.walk_as.Tie as tie
 
 returns : tie.Need-returns
 unfolding verdictBy sized answerFor
@@ -36,7 +36,7 @@ unfolding verdictBy sized answerFor
 returns-4 c = let n = length (now (c .before .before .before .before .before .args .s)) in
     rw (le-leb 20 n (c .before .before .before .if1 .left), le-leb n 8388608 (c .before .before .if2 .left), sym (c .before .fields0 .ensures) ∙ c .if3 .left)
 
-pub walk-spec : {M : Type 1} → statement M
-walk-spec =
+pub walk-as-spec : {M : Type 1} → statement M
+walk-as-spec =
     tie.close
     (tie.spec returns returns-2 fields0-requires sub-walk-to walk-to-requires returns-3 returns-4)

@@ -1,0 +1,30 @@
+-- By the format.
+use Rattle.layout.specs.Checks as L
+use Rattle.duallayout.specs.Checks as D
+use borrow.Author.Needs.{needs}
+use Rattle.walks.proofs.judge7.Statement.{statement}
+use Rattle.walks.proofs.judge7.Tie as tie
+
+enum-told : tie.Need-enum-told
+enum-told c = search needs
+
+judge7-requires : tie.Need-judge7-requires
+judge7-requires c κs = search needs
+
+enum-told-2 : tie.Need-enum-told-2
+enum-told-2 c = search needs
+
+judge7-requires-2 : tie.Need-judge7-requires-2
+judge7-requires-2 c κs = search needs
+
+returns : tie.Need-returns
+unfolding L.ownChecks
+returns c = rw (c .before .enum-told .given .1) (c .judge7 .ensures)
+
+returns-2 : tie.Need-returns-2
+unfolding D.ownChecks
+returns-2 c = rw (c .before .enum-told2 .given .1) (c .judge72 .ensures)
+
+pub judge7-spec : {M : Type 1} → statement M
+judge7-spec =
+    tie.close (tie.spec enum-told judge7-requires enum-told-2 judge7-requires-2 returns returns-2)
