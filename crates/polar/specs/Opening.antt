@@ -6,7 +6,8 @@ use lib.Dec.{eqb}
 use lib.ListN.{length, getD}
 use Rattle.octets.specs.Octets.{signed}
 use Rattle.rules.specs.Rules.{field}
-use Rattle.rules.specs.Fields.{siteAt, binsAt, raysAt}
+use Rattle.rules.specs.Fields.{siteAt}
+use Rattle.sections.specs.Parts.{timeOf, gridAt}
 use Rattle.layout.specs.Parts.{productIn}
 use Rattle.sections.specs.Verdict.{Verdict, accepted, refused, noCut}
 use Rattle.layout.specs.Verdict.{verdict}
@@ -22,17 +23,12 @@ use Rattle.polar.specs.declared.CutAnswer.{CutAnswer}
 use Rattle.polar.specs.declared.CutAnswer.the-variants as C
 use Rattle.polar.specs.declared.AskRefusal.the-variants.{File, Argument}
 
--- "product, time, site, number of cuts": the time stands in section 1, at place 16; product and site are those of the first cut's section 4
+-- "product, time, site, number of cuts": product and site are those of the first cut's section 4
 abbrev pub summaryOf : List ℕ → ℕ → Cut → Summary
 summaryOf s n c =
     record {
       product = productIn s c;
-      year = field s 16 13 2;
-      month = field s 16 15 1;
-      day = field s 16 16 1;
-      hour = field s 16 17 1;
-      minute = field s 16 18 1;
-      second = field s 16 19 1;
+      time = timeOf s;
       site = siteAt s (c .section4);
       cuts = n;
     }
@@ -52,12 +48,7 @@ elevationOf n = cond (eqb n 0xFFFF) Missing (Hundredths (signed 2 n))
 unfoldable pub infoOf : List ℕ → Cut → CutInfo
 infoOf s c =
     record {
-      nb = binsAt s (c .section3);
-      nr = raysAt s (c .section3);
-      latitude = signed 4 (field s (c .section3) 23 4);
-      longitude = field s (c .section3) 27 4;
-      dx = field s (c .section3) 31 4;
-      dstart = field s (c .section3) 35 4;
+      grid = gridAt s (c .section3);
       «start_azimuth» = field s (c .section3) 40 2;
       octet38 = field s (c .section4) 38 1;
       elevation = elevationOf (field s (c .section4) 42 2);

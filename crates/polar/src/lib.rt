@@ -3,6 +3,8 @@
 // file's checks) and `cuts` (one cut of an accepted file); above it `lines` and `lister` (the list as text) and `polar_c` (the calls for C and Rust).
 use sections::Cut;
 use sections::FileRefusal;
+use sections::Grid;
+use sections::Time;
 use sections::Walked;
 use stretches::Listing;
 use values::Product;
@@ -36,12 +38,7 @@ pub enum FillRefusal {
 // What is common to all cuts of a file.
 pub struct Summary {
     pub product: Product,
-    pub year: u16,
-    pub month: u8,
-    pub day: u8,
-    pub hour: u8,
-    pub minute: u8,
-    pub second: u8,
+    pub time: Time,
     pub site: u16,
     pub cuts: usize,
 }
@@ -58,12 +55,7 @@ pub enum Elevation {
 
 // A cut as the file describes it, each number as read.
 pub struct CutInfo {
-    pub nb: u32,
-    pub nr: u32,
-    pub latitude: i32,
-    pub longitude: u32,
-    pub dx: u32,
-    pub dstart: u32,
+    pub grid: Grid,
     pub start_azimuth: u16,
     pub octet38: u8,
     pub elevation: Elevation,
@@ -98,21 +90,11 @@ fn summary_of(file: &[u8], n: usize, c: Cut) -> Summary
 {
     let section4 = c.section4;
     let product = layout::product_in(file, c);
-    let year = rules::field16(file, 16, 13);
-    let month = rules::field8(file, 16, 15);
-    let day = rules::field8(file, 16, 16);
-    let hour = rules::field8(file, 16, 17);
-    let minute = rules::field8(file, 16, 18);
-    let second = rules::field8(file, 16, 19);
+    let time = sections::time_of(file);
     let site = rules::field16(file, section4, 29);
     Summary {
         product,
-        year,
-        month,
-        day,
-        hour,
-        minute,
-        second,
+        time,
         site,
         cuts: n,
     }
@@ -146,22 +128,12 @@ fn info_of(file: &[u8], c: Cut) -> CutInfo
 {
     let section3 = c.section3;
     let section4 = c.section4;
-    let nb = rules::field32(file, section3, 15);
-    let nr = rules::field32(file, section3, 19);
-    let latitude = octets::signed32(rules::field32(file, section3, 23));
-    let longitude = rules::field32(file, section3, 27);
-    let dx = rules::field32(file, section3, 31);
-    let dstart = rules::field32(file, section3, 35);
+    let grid = sections::grid_at(file, section3);
     let start_azimuth = rules::field16(file, section3, 40);
     let octet38 = rules::field8(file, section4, 38);
     let elevation = elevation_of(rules::field16(file, section4, 42));
     CutInfo {
-        nb,
-        nr,
-        latitude,
-        longitude,
-        dx,
-        dstart,
+        grid,
         start_azimuth,
         octet38,
         elevation,

@@ -9,6 +9,7 @@ ghost use mathlib.Core.Bool.{cond};
 ghost use Prim.Native.Nat.{_+_};
 ghost use Rattle.rules.specs.Fields.{lengthAt};
 ghost use Rattle.sections.specs.Refusal.{numberOf, placeOf};
+ghost use Rattle.sections.specs.Parts.{timeOf, gridAt};
 ghost use Rattle.sections.specs.Places.{firstIn};
 
 // Why a file is refused, one case for each of document 01's numbers and for wish 6's, with the place of the section concerned: specs/Refusal.antt.
@@ -43,6 +44,26 @@ pub struct Cut {
     pub section4: usize,
     pub section5: usize,
     pub section7: usize,
+}
+
+// When a file was observed, as its section 1 says.
+pub struct Time {
+    pub year: u16,
+    pub month: u8,
+    pub day: u8,
+    pub hour: u8,
+    pub minute: u8,
+    pub second: u8,
+}
+
+// What every section 3 says, each number as read.
+pub struct Grid {
+    pub nb: u32,
+    pub nr: u32,
+    pub latitude: i32,
+    pub longitude: u32,
+    pub dx: u32,
+    pub dstart: u32,
 }
 
 // An accepted file: how many cuts it has, and the one that was asked for.
@@ -156,4 +177,44 @@ pub fn first_in(st: State) -> usize
     ensures { λ r. ⌜ r ≡ firstIn st ⌝ }
 {
     pick(st.first == 0, st.at, st.first)
+}
+
+// ---- what every format says alike
+
+pub fn time_of(s: &[u8]) -> Time
+    ensures { λ r. ⌜ r ≡ timeOf (now (s .entry)) ⌝ }
+{
+    let year = rules::field16(s, 16, 13);
+    let month = rules::field8(s, 16, 15);
+    let day = rules::field8(s, 16, 16);
+    let hour = rules::field8(s, 16, 17);
+    let minute = rules::field8(s, 16, 18);
+    let second = rules::field8(s, 16, 19);
+    Time {
+        year,
+        month,
+        day,
+        hour,
+        minute,
+        second,
+    }
+}
+
+pub fn grid_at(s: &[u8], at: usize) -> Grid
+    ensures { λ r. ⌜ r ≡ gridAt (now (s .entry)) at ⌝ }
+{
+    let nb = rules::field32(s, at, 15);
+    let nr = rules::field32(s, at, 19);
+    let latitude = octets::signed32(rules::field32(s, at, 23));
+    let longitude = rules::field32(s, at, 27);
+    let dx = rules::field32(s, at, 31);
+    let dstart = rules::field32(s, at, 35);
+    Grid {
+        nb,
+        nr,
+        latitude,
+        longitude,
+        dx,
+        dstart,
+    }
 }

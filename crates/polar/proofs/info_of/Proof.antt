@@ -1,32 +1,11 @@
 -- Field by field.
 use Rattle.polar.specs.Opening.{infoOf}
-use Rattle.rules.specs.Fields.{binsAt, raysAt}
-use mir.ValLaws.{toZ-ofZ}
-use mir.Syntax.{w32}
 use borrow.Author.Needs.{needs}
 use Rattle.polar.proofs.info_of.Statement.{statement}
 use Rattle.polar.proofs.info_of.Tie as tie
 
-field32-requires : tie.Need-field32-requires
-field32-requires c κs = search needs
-
-field32-requires-2 : tie.Need-field32-requires-2
-field32-requires-2 c κs = search needs
-
-field32-requires-3 : tie.Need-field32-requires-3
-field32-requires-3 c κs = search needs
-
-signed32-requires : tie.Need-signed32-requires
-signed32-requires c κs = search needs
-
-field32-requires-4 : tie.Need-field32-requires-4
-field32-requires-4 c κs = search needs
-
-field32-requires-5 : tie.Need-field32-requires-5
-field32-requires-5 c κs = search needs
-
-field32-requires-6 : tie.Need-field32-requires-6
-field32-requires-6 c κs = search needs
+grid-at-requires : tie.Need-grid-at-requires
+grid-at-requires c κs = search needs
 
 field16-requires : tie.Need-field16-requires
 field16-requires c κs = search needs
@@ -41,22 +20,10 @@ elevation-of-requires : tie.Need-elevation-of-requires
 elevation-of-requires c κs = search needs
 
 returns : tie.Need-returns
-unfolding infoOf binsAt raysAt
-returns c = let back = toZ-ofZ w32 (c .before .before .before .before .before .before .before .signed32 .result) (record { sfits = c .before .before .before .before .before .before .before .signed32 .ok }) in cc back
+unfolding infoOf
+returns c = cc
 
 pub info-of-spec : {M : Type 1} → statement M
 info-of-spec =
     tie.close
-    (tie.spec
-    field32-requires
-    field32-requires-2
-    field32-requires-3
-    signed32-requires
-    field32-requires-4
-    field32-requires-5
-    field32-requires-6
-    field16-requires
-    field8-requires
-    field16-requires-2
-    elevation-of-requires
-    returns)
+    (tie.spec grid-at-requires field16-requires field8-requires field16-requires-2 elevation-of-requires returns)

@@ -1,0 +1,46 @@
+-- Field by field.
+use Rattle.sections.specs.Parts.{gridAt}
+use Rattle.rules.specs.Fields.{binsAt, raysAt}
+use mir.ValLaws.{toZ-ofZ}
+use mir.Syntax.{w32}
+use borrow.Author.Needs.{needs}
+use Rattle.sections.proofs.grid_at.Statement.{statement}
+use Rattle.sections.proofs.grid_at.Tie as tie
+
+field32-requires : tie.Need-field32-requires
+field32-requires c κs = search needs
+
+field32-requires-2 : tie.Need-field32-requires-2
+field32-requires-2 c κs = search needs
+
+field32-requires-3 : tie.Need-field32-requires-3
+field32-requires-3 c κs = search needs
+
+signed32-requires : tie.Need-signed32-requires
+signed32-requires c κs = search needs
+
+field32-requires-4 : tie.Need-field32-requires-4
+field32-requires-4 c κs = search needs
+
+field32-requires-5 : tie.Need-field32-requires-5
+field32-requires-5 c κs = search needs
+
+field32-requires-6 : tie.Need-field32-requires-6
+field32-requires-6 c κs = search needs
+
+returns : tie.Need-returns
+unfolding gridAt binsAt raysAt
+returns c = let back = toZ-ofZ w32 (c .before .before .before .signed32 .result) (record { sfits = c .before .before .before .signed32 .ok }) in cc back
+
+pub grid-at-spec : {M : Type 1} → statement M
+grid-at-spec =
+    tie.close
+    (tie.spec
+    field32-requires
+    field32-requires-2
+    field32-requires-3
+    signed32-requires
+    field32-requires-4
+    field32-requires-5
+    field32-requires-6
+    returns)
