@@ -17,19 +17,7 @@ ghost use Rattle.stretches.specs.Call.{answerOf, outOf, rightPoint};
 ghost use Rattle.cuts.specs.Bins.{binsFrom, rayIn, stretchesIn};
 ghost use Rattle.cuts.specs.After.{cutAfter};
 
-// Nb, Nr and V of a cut.
-pub fn bins_in(file: &[u8], c: Cut) -> usize
-    ensures { λ r. ⌜ r ≡ binsIn (now (file .entry)) c ⌝ }
-{
-    place(rules::field32(file, c.section3, 15))
-}
-
-pub fn rays_in(file: &[u8], c: Cut) -> usize
-    ensures { λ r. ⌜ r ≡ raysIn (now (file .entry)) c ⌝ }
-{
-    place(rules::field32(file, c.section3, 19))
-}
-
+// V of a cut.
 pub fn greatest_in(file: &[u8], c: Cut) -> u8
     requires { ⌜ GoodCut (now file) c ⌝ }
     ensures { λ r. ⌜ r ≡ greatestIn (now (file .entry)) c ⌝ }
@@ -70,7 +58,7 @@ pub fn ray_into(file: &[u8], c: Cut, ray: usize, out: &mut [u8])
     requires { ⌜ (ray < raysIn (now file) c) × (binsIn (now file) c ≤ length (now out)) ⌝ }
     ensures { λ _. ⌜ now (out .exit) ≡ front (rayIn (now (file .entry)) c ray) (now (out .entry)) ⌝ }
 {
-    let nb = bins_in(file, c);
+    let nb = sections::bins_in(file, c);
     bins_into(file, c, ray * nb, nb, out)
 }
 
@@ -81,7 +69,7 @@ pub fn readings_into(file: &[u8], c: Cut, ray: usize, marks: &mut [u8], values: 
     ensures { λ _. ⌜ now (marks .exit) ≡ marksOf (productIn (now (file .entry)) c) (rayIn (now (file .entry)) c ray) (now (marks .entry)) ⌝ }
     ensures { λ _. ⌜ now (values .exit) ≡ valuesOf (productIn (now (file .entry)) c) (rayIn (now (file .entry)) c ray) (now (values .entry)) ⌝ }
 {
-    let nb = bins_in(file, c);
+    let nb = sections::bins_in(file, c);
     let from = ray * nb;
     let v = greatest_in(file, c);
     let product = layout::product_in(file, c);
@@ -94,7 +82,7 @@ pub fn level_in(file: &[u8], c: Cut, ray: usize, bin: usize) -> u8
     requires { ⌜ (ray < raysIn (now file) c) × (bin < binsIn (now file) c) ⌝ }
     ensures { λ r. ⌜ (r ≡ levelIn (now (file .entry)) c ray bin) × (r ≤ levelCount (productIn (now (file .entry)) c)) ⌝ }
 {
-    let at = ray * bins_in(file, c) + bin;
+    let at = ray * sections::bins_in(file, c) + bin;
     let v = greatest_in(file, c);
     runs::level_at(data_in(file, c), v, at)
 }
@@ -106,8 +94,8 @@ pub fn list_into(file: &[u8], c: Cut, t: i32, ray: usize, bin: usize, words: &mu
     ensures { λ r. ⌜ r ≡ answerOf (raysIn (now (file .entry)) c) (length (now (words .entry))) (stretchesIn (now (file .entry)) c t ray bin) ⌝ }
     ensures { λ _. ⌜ now (words .exit) ≡ outOf (now (words .entry)) (stretchesIn (now (file .entry)) c t ray bin) ⌝ }
 {
-    let nr = rays_in(file, c);
-    let nb = bins_in(file, c);
+    let nr = sections::rays_in(file, c);
+    let nb = sections::bins_in(file, c);
     let product = layout::product_in(file, c);
     let v = greatest_in(file, c);
     stretches::list_from(data_in(file, c), v, product, t, nb, nr, ray, bin, words)

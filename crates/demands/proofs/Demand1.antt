@@ -2,7 +2,7 @@
 -- refusal no octet or word of a lent buffer has changed. (That every call ends and asks nothing: each function is proved, and none has a `requires`.)
 -- The idea: the answer is a function of the verdict, so it is taken apart by the verdict and then by each test in turn.
 use Prim.Native.Nat.{ℕ, _≤_, _<_, min}
-use mathlib.Core.Path.{_≡_, refl, sym, _∙_, ap}
+use mathlib.Core.Path.{_≡_, refl, sym, _∙_, subst}
 use mathlib.Core.Logic.{_⊎_, inl, inr, ⊎-elim}
 use mathlib.Core.List.{List}
 use mathlib.Core.Bool.{Bool, true, false, cond, false≢true, _&&_}
@@ -13,9 +13,10 @@ use lib.ListN.{length, getD}
 use lib.IntN.{ℤ}
 use Rattle.sections.specs.Parts.{binsIn, raysIn}
 use Rattle.layout.specs.Parts.{productIn, levelIn}
-use Rattle.sections.specs.Verdict.{Verdict, accepted, refused, noCut}
-use Rattle.layout.specs.Verdict.{verdict, RefusedBy}
-use Rattle.layout.specs.Accepted.{Accepted}
+use Rattle.sections.specs.Verdict.{noCut}
+use Rattle.layout.specs.Checks.{ownChecks}
+use Rattle.layout.specs.Verdict.{RefusedBy}
+use Rattle.layout.specs.Accepted.{kinds, Accepted}
 use Rattle.sections.specs.declared.Cut.{Cut}
 use Rattle.sections.specs.declared.FileRefusal.{FileRefusal}
 use Rattle.layout.proofs.Exact.{exact}
@@ -25,8 +26,8 @@ use Rattle.values.specs.declared.Reading.the-variants as N
 use Rattle.stretches.specs.Stretch.{perEntry}
 use Rattle.stretches.specs.Call.{rightT, rightPoint, answerOf}
 use Rattle.cuts.specs.Bins.{stretchesIn}
-use Rattle.polar.specs.Cuts.{onCut}
-use Rattle.polar.specs.Opening.{opened, openAnswer, infoOf, cutAnswer}
+use Rattle.polar.proofs.ByVerdict.{file-refused, by-file-verdict, by-verdict, ask-reason}
+use Rattle.polar.specs.Opening.{summaryOf, openAnswer, infoOf, cutAnswer}
 use Rattle.polar.specs.Rays.{rayOn, rayAnswer, levelsAfter, marksAfter, valuesAfter, binOf, binOn, binAnswer}
 use Rattle.polar.specs.Stretching.{stretchesOn, stretchAnswer, wordsAfter}
 use Rattle.polar.specs.declared.Opened.{Opened}
@@ -43,48 +44,27 @@ use Rattle.demands.specs.Promises.{OpenPromise, CutPromise, LevelsPromis
 use Rattle.demands.specs.Reasons.{AskReason, FillReason}
 use Rattle.demands.specs.Reasons as W
 
--- ── a refusal, by the verdict ──
-
--- `q` is refused where the answer on cut i is `wrap q`: for each way that the verdict and the cut's number may go
-by-verdict : {A : Type 0} (bad : FileRefusal → A) (no-cut : A) (some : Cut → A) (s : List ℕ) (i : ℕ) (a : A) (P : Type 0)
-    → ((r : FileRefusal) → RefusedBy s r → bad r ≡ a → P)
-    → ((cs : List Cut) → Accepted s cs → length cs ≤ i → no-cut ≡ a → P)
-    → ((cs : List Cut) → Accepted s cs → i < length cs → some (getD cs i noCut) ≡ a → P)
-    → onCut bad no-cut some i (verdict s) ≡ a → P
-unfolding onCut
-by-verdict bad no-cut some s i a P kr kn ks h = go (verdict s) refl h
-  where
-    go : (v : Verdict) → verdict s ≡ v → onCut bad no-cut some i v ≡ a → P
-    go (refused r) e x = kr r (exact .refused-only s r e) x
-    go (accepted cs) e x = split (ltb i (length cs)) refl x
-      where
-        split : (t : Bool) → ltb i (length cs) ≡ t → cond t (some (getD cs i noCut)) no-cut ≡ a → P
-        split true p y = ks cs (exact .accepted-only s cs e) (ltb-true _ _ p) y
-        split false p y = kn cs (exact .accepted-only s cs e) (ltb-false _ _ p) y
-
 -- ── open ──
 
 pub open-refused : (s : List ℕ) (r : FileRefusal) → OpenPromise s (O.Refused r) → RefusedBy s r
 unfolding openAnswer
-open-refused s r p = go (verdict s) refl (p .answer)
-  where
-    go : (v : Verdict) → verdict s ≡ v → O.Refused r ≡ opened s v → RefusedBy s r
-    go (refused q) e h = let same : r ≡ q = cc in exact .refused-only s r (e ∙ ap refused (sym same))
-    go (accepted cs) e h = let z : _≡_ {A = ℕ} 0 1 = cc in absurd (omega arith)
+open-refused s r p =
+    by-file-verdict ownChecks kinds exact s O.Refused (λ n c. O.File (summaryOf s n c)) (O.Refused r) (RefusedBy s r)
+    (λ q k e. let same : q ≡ r = cc e in subst (RefusedBy s) same k)
+    (λ cs k e. let z : _≡_ {A = ℕ} 0 1 = cc e in absurd (omega arith))
+    (sym (p .answer))
 
 pub refused-open : (s : List ℕ) (r : FileRefusal) (a : Opened) → RefusedBy s r → OpenPromise s a → a ≡ O.Refused r
 unfolding openAnswer
-refused-open s r a h p = p .answer ∙ ap (opened s) (exact .refused-all s r h)
+refused-open s r a h p = p .answer ∙ file-refused ownChecks kinds exact s _ _ r h
 
 -- ── cut ──
 
 pub cut-refused : (s : List ℕ) (i : ℕ) (q : AskRefusal) → CutPromise s i (C.Refused q) → AskReason s i (λ c. ⊥) q
 unfolding cutAnswer
 cut-refused s i q p =
-    by-verdict (λ r. C.Refused (A.File r)) (C.Refused A.Argument) (λ c. C.Cut (infoOf s c)) s i (C.Refused q) (AskReason s i (λ c. ⊥) q)
-    (λ r k e. let same : A.File r ≡ q = cc e in rw (sym same) (W.AskReason.by-file k))
-    (λ cs k le e. let same : A.Argument ≡ q = cc e in rw (sym same) (W.AskReason.by-cut k le))
-    (λ cs k lt e. let z : _≡_ {A = ℕ} 0 1 = cc e in absurd (omega arith))
+    ask-reason ownChecks kinds exact s C.Refused (λ p q e. cc e) (λ c. C.Cut (infoOf s c)) i (λ c. ⊥) q
+    (λ c e. let z : _≡_ {A = ℕ} 0 1 = cc e in absurd (omega arith))
     (sym (p .answer))
 
 -- ── the ray calls ──
@@ -98,7 +78,7 @@ RayShort s room c = room < binsIn s c
 ray-reason : (s : List ℕ) (i ray room : ℕ) (q : FillRefusal) → R.Refused q ≡ rayAnswer s i ray room → FillReason s i (RayWrong s ray) (RayShort s room) q
 unfolding rayAnswer rayOn
 ray-reason s i ray room q h =
-    by-verdict (λ r. R.Refused (F.File r)) (R.Refused F.Argument) (rayOn s ray room) s i (R.Refused q) (FillReason s i (RayWrong s ray) (RayShort s room) q)
+    by-verdict ownChecks kinds exact s (λ r. R.Refused (F.File r)) (R.Refused F.Argument) (rayOn s ray room) i (R.Refused q) (FillReason s i (RayWrong s ray) (RayShort s room) q)
     (λ r k e. let same : F.File r ≡ q = cc e in rw (sym same) (W.FillReason.by-file k))
     (λ cs k le e. let same : F.Argument ≡ q = cc e in rw (sym same) (W.FillReason.by-cut k le))
     (λ cs k lt e. split cs k lt (ltb ray (raysIn s (getD cs i noCut))) (ltb room (binsIn s (getD cs i noCut))) refl refl e)
@@ -139,18 +119,16 @@ reading-answers (N.Number n) q h = let z : _≡_ {A = ℕ} 0 1 = cc in omega ari
 pub bin-refused : (s : List ℕ) (i ray bin : ℕ) (q : AskRefusal) → BinPromise s i ray bin (B.Refused q) → AskReason s i (BinWrong s ray bin) q
 unfolding binAnswer binOn
 bin-refused s i ray bin q p =
-    by-verdict (λ r. B.Refused (A.File r)) (B.Refused A.Argument) (binOn s ray bin) s i (B.Refused q) (AskReason s i (BinWrong s ray bin) q)
-    (λ r k e. let same : A.File r ≡ q = cc e in rw (sym same) (W.AskReason.by-file k))
-    (λ cs k le e. let same : A.Argument ≡ q = cc e in rw (sym same) (W.AskReason.by-cut k le))
-    (λ cs k lt e. split cs k lt (ltb ray (raysIn s (getD cs i noCut))) (ltb bin (binsIn s (getD cs i noCut))) refl refl e)
+    ask-reason ownChecks kinds exact s B.Refused (λ p q e. cc e) (binOn s ray bin) i (BinWrong s ray bin) q
+    (λ c e. split c (ltb ray (raysIn s c)) (ltb bin (binsIn s c)) refl refl e)
     (sym (p .answer))
   where
-    split : (cs : List Cut) → Accepted s cs → i < length cs → (t u : Bool) → ltb ray (raysIn s (getD cs i noCut)) ≡ t → ltb bin (binsIn s (getD cs i noCut)) ≡ u
-        → cond (t && u) (binOf (readingOf (productIn s (getD cs i noCut)) (levelIn s (getD cs i noCut) ray bin))) (B.Refused A.Argument) ≡ B.Refused q
-        → AskReason s i (BinWrong s ray bin) q
-    split cs k lt false u a b e = let same : A.Argument ≡ q = cc e in rw (sym same) (W.AskReason.by-argument k lt (inl (ltb-false _ _ a)))
-    split cs k lt true false a b e = let same : A.Argument ≡ q = cc e in rw (sym same) (W.AskReason.by-argument k lt (inr (ltb-false _ _ b)))
-    split cs k lt true true a b e = absurd (reading-answers _ q e)
+    split : (c : Cut) (t u : Bool) → ltb ray (raysIn s c) ≡ t → ltb bin (binsIn s c) ≡ u
+        → cond (t && u) (binOf (readingOf (productIn s c) (levelIn s c ray bin))) (B.Refused A.Argument) ≡ B.Refused q
+        → (q ≡ A.Argument) × BinWrong s ray bin c
+    split c false u a b e = (cc e, inl (ltb-false _ _ a))
+    split c true false a b e = (cc e, inr (ltb-false _ _ b))
+    split c true true a b e = absurd (reading-answers _ q e)
 
 -- ── stretches ──
 
@@ -162,7 +140,7 @@ pub stretches-refused : (s : List ℕ) (i : ℕ) (t : ℤ) (ray bin : ℕ) (word
     → FillReason s i (ListWrong s t ray bin) (λ c. length words < perEntry) q × (words′ ≡ words)
 unfolding stretchAnswer stretchesOn wordsAfter
 stretches-refused s i t ray bin words words′ q p = (
-  by-verdict (λ r. S.Refused (F.File r)) (S.Refused F.Argument) (stretchesOn s t ray bin (length words)) s i (S.Refused q)
+  by-verdict ownChecks kinds exact s (λ r. S.Refused (F.File r)) (S.Refused F.Argument) (stretchesOn s t ray bin (length words)) i (S.Refused q)
       (FillReason s i (ListWrong s t ray bin) (λ c. length words < perEntry) q)
       (λ r k e. let same : F.File r ≡ q = cc e in rw (sym same) (W.FillReason.by-file k))
       (λ cs k le e. let same : F.Argument ≡ q = cc e in rw (sym same) (W.FillReason.by-cut k le))

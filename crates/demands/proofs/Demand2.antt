@@ -29,7 +29,8 @@ use Rattle.sections.specs.Parts.{binsIn, raysIn}
 use Rattle.layout.specs.Parts.{dataAt, productIn, greatestIn, levelsIn, levelIn}
 use Rattle.sections.specs.Verdict.{Verdict, accepted, refused, noCut}
 use Rattle.layout.specs.Verdict.{verdict}
-use Rattle.layout.specs.Accepted.{Accepted}
+use Rattle.layout.specs.Checks.{ownChecks}
+use Rattle.layout.specs.Accepted.{kinds, Accepted}
 use Rattle.layout.specs.Good.{GoodCut}
 use Rattle.sections.specs.declared.Cut.{Cut}
 use Rattle.sections.specs.declared.FileRefusal.{FileRefusal}
@@ -39,7 +40,8 @@ use Rattle.cuts.specs.Bins.{rayIn}
 use Rattle.cuts.proofs.Places.{data-opens, all-bins, level-few}
 use Rattle.cuts.proofs.Rays.{ray-length, ray-bin}
 use Rattle.polar.specs.Cuts.{onCut, cutAt}
-use Rattle.polar.specs.Opening.{summaryOf, opened, openAnswer, infoOf, cutAnswer}
+use Rattle.polar.proofs.ByVerdict.{file-accepted, by-file-verdict, cut-accepted}
+use Rattle.polar.specs.Opening.{summaryOf, openAnswer, infoOf, cutAnswer}
 use Rattle.polar.specs.Rays.{rayOn, rayAnswer, levelsAfter, marksAfter, valuesAfter, binOf, binOn, binAnswer}
 use Rattle.polar.specs.declared.Summary.{Summary}
 use Rattle.polar.specs.declared.Opened.{Opened}
@@ -57,7 +59,7 @@ use Rattle.demands.proofs.Lent.{front-at, front-past, over-beyond}
 
 pub accepted-open : (s : List ℕ) (cs : List Cut) (r : Opened) → Accepted s cs → OpenPromise s r → r ≡ O.File (summaryOf s (length cs) (getD cs 0 noCut))
 unfolding openAnswer
-accepted-open s cs r a p = p .answer ∙ ap (opened s) (exact .accepted-all s cs a)
+accepted-open s cs r a p = p .answer ∙ file-accepted ownChecks kinds exact s _ _ cs a
 
 pub record AcceptedAs (s : List ℕ) (m : Summary) : Type 0 where
   pub cs : List Cut
@@ -66,11 +68,11 @@ pub record AcceptedAs (s : List ℕ) (m : Summary) : Type 0 where
 
 pub open-accepted : (s : List ℕ) (m : Summary) → OpenPromise s (O.File m) → AcceptedAs s m
 unfolding openAnswer
-open-accepted s m p = go (verdict s) refl (p .answer)
-  where
-    go : (v : Verdict) → verdict s ≡ v → O.File m ≡ opened s v → AcceptedAs s m
-    go (accepted cs) e h = record { cs = cs; accepts = exact .accepted-only s cs e; summary = cc }
-    go (refused r) e h = let z : _≡_ {A = ℕ} 0 1 = cc in absurd (omega arith)
+open-accepted s m p =
+    by-file-verdict ownChecks kinds exact s O.Refused (λ n c. O.File (summaryOf s n c)) (O.File m) (AcceptedAs s m)
+    (λ r k e. let z : _≡_ {A = ℕ} 0 1 = cc e in absurd (omega arith))
+    (λ cs k e. record { cs = cs; accepts = k; summary = cc e })
+    (sym (p .answer))
 
 -- ── a cut of an accepted file ──
 
@@ -82,8 +84,7 @@ module _ (s : List ℕ) (cs : List Cut) (a : Accepted s cs) (i : ℕ) (lt : i < 
   good = good-accepted s cs a i lt
 
   pub on-accepted : {A : Type 0} (bad : FileRefusal → A) (no-cut : A) (some : Cut → A) → onCut bad no-cut some i (verdict s) ≡ some cut
-  unfolding onCut
-  on-accepted bad no-cut some = ap (onCut bad no-cut some i) (exact .accepted-all s cs a) ∙ rw (lt-ltb i (length cs) lt)
+  on-accepted bad no-cut some = cut-accepted ownChecks kinds exact s bad no-cut some i cs a lt
 
   pub cut-is : cutAt i (verdict s) ≡ cut
   unfolding cutAt

@@ -128,8 +128,8 @@ fn put_first_line(file: &[u8], t: Turn, text: &mut [u8], at: usize) -> usize
 {
     let cut = t.cut;
     let product = product_number(layout::product_in(file, cut));
-    let bins = cuts::bins_in(file, cut);
-    let rays = cuts::rays_in(file, cut);
+    let bins = sections::bins_in(file, cut);
+    let rays = sections::rays_in(file, cut);
     lines::put_head(
         text,
         at,
@@ -148,7 +148,7 @@ fn moved_on(file: &[u8], t: Turn, l: Listing) -> Progress
 {
     let cut = t.cut;
     let total = t.total + l.count;
-    if l.ray < cuts::rays_in(file, cut) {
+    if l.ray < sections::rays_in(file, cut) {
         return Progress::Fill(Turn {
             number: t.number,
             cuts: t.cuts,

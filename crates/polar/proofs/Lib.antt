@@ -1,2 +1,3 @@
 pub mod OnCut
 pub mod Answering
+pub mod ByVerdict

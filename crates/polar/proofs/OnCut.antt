@@ -12,9 +12,7 @@ use Rattle.sections.specs.declared.Cut.{Cut}
 use Rattle.sections.specs.declared.Found.{Found}
 use Rattle.sections.specs.declared.FileRefusal.{FileRefusal}
 use Rattle.sections.specs.declared.Walked.the-variants.{Whole, Rejected}
-use Rattle.polar.specs.Cuts.{onCut, cutAt}
-use Rattle.polar.specs.Opening.{summaryOf, opened}
-use Rattle.polar.specs.declared.Opened.the-variants as O
+use Rattle.polar.specs.Cuts.{onFile, onCut, cutAt}
 
 -- an accepting answer is that of the verdict's cuts
 whole-found : (i : ℕ) (v : Verdict) (f : Found) (P : Verdict → Found → Type 0) → answerFor i v ≡ Whole f
@@ -49,8 +47,11 @@ pub cut-found : (i : ℕ) (v : Verdict) (f : Found) → answerFor i v ≡ Whole 
 unfolding cutAt
 cut-found i v f h = whole-found i v f (λ w x. cutAt i w ≡ x .cut) h (λ cs. refl)
 
-pub opened-found : (s : List ℕ) (v : Verdict) (f : Found) → answerFor 0 v ≡ Whole f → opened s v ≡ O.File (summaryOf s (f .cuts) (f .cut))
-opened-found s v f h = whole-found 0 v f (λ w x. opened s w ≡ O.File (summaryOf s (x .cuts) (x .cut))) h (λ cs. refl)
+module _ {A : Type 0} (bad : FileRefusal → A) (some : ℕ → Cut → A) (v : Verdict) where
+  pub file-some : (f : Found) → answerFor 0 v ≡ Whole f → onFile bad some v ≡ some (f .cuts) (f .cut)
+  unfolding onFile
+  file-some f h = whole-found 0 v f (λ w x. onFile bad some w ≡ some (x .cuts) (x .cut)) h (λ cs. refl)
 
-pub opened-bad : (s : List ℕ) (v : Verdict) (r : FileRefusal) → answerFor 0 v ≡ Rejected r → opened s v ≡ O.Refused r
-opened-bad s v r h = ap (opened s) (rejected-found 0 v r h)
+  pub file-bad : (r : FileRefusal) → answerFor 0 v ≡ Rejected r → onFile bad some v ≡ bad r
+  unfolding onFile
+  file-bad r h = ap (onFile bad some) (rejected-found 0 v r h)

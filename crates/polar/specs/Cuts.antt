@@ -14,6 +14,11 @@ unfoldable pub onCut : {A : Type 0} → (FileRefusal → A) → A → (Cut → A
 onCut bad no-cut some i (accepted cs) = cond (ltb i (length cs)) (some (getD cs i noCut)) no-cut
 onCut bad no-cut some i (refused r) = bad r
 
+-- a call on the whole file: the file's own refusal; or what it says with the number of cuts and the first cut
+unfoldable pub onFile : {A : Type 0} → (FileRefusal → A) → (ℕ → Cut → A) → Verdict → A
+onFile bad some (accepted cs) = some (length cs) (getD cs 0 noCut)
+onFile bad some (refused r) = bad r
+
 -- cut i of a file
 unfoldable pub cutAt : ℕ → Verdict → Cut
 cutAt i (accepted cs) = getD cs i noCut

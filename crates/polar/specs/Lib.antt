@@ -3,3 +3,4 @@ pub mod Cuts
 pub mod Opening
 pub mod Rays
 pub mod Stretching
+pub mod Reasons

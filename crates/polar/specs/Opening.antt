@@ -12,7 +12,7 @@ use Rattle.layout.specs.Parts.{productIn}
 use Rattle.sections.specs.Verdict.{Verdict, accepted, refused, noCut}
 use Rattle.layout.specs.Verdict.{verdict}
 use Rattle.sections.specs.declared.Cut.{Cut}
-use Rattle.polar.specs.Cuts.{onCut}
+use Rattle.polar.specs.Cuts.{onFile, onCut}
 use Rattle.polar.specs.declared.Summary.{Summary}
 use Rattle.polar.specs.declared.Opened.{Opened}
 use Rattle.polar.specs.declared.Opened.the-variants as O
@@ -33,12 +33,8 @@ summaryOf s n c =
       cuts = n;
     }
 
-abbrev pub opened : List ℕ → Verdict → Opened
-opened s (accepted cs) = O.File (summaryOf s (length cs) (getD cs 0 noCut))
-opened s (refused r) = O.Refused r
-
 unfoldable pub openAnswer : List ℕ → Opened
-openAnswer s = opened s (verdict s)
+openAnswer s = onFile O.Refused (λ n c. O.File (summaryOf s n c)) (verdict s)
 
 -- octets 42-43 of section 4: "Elevation constant 0xFFFF means missing, not -32767"
 unfoldable pub elevationOf : ℕ → Elevation

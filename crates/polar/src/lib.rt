@@ -163,8 +163,8 @@ fn ray_levels_on(file: &[u8], c: Cut, ray: usize, out: &mut [u8]) -> RayAnswer
     ensures { λ r. ⌜ r ≡ rayOn (now (file .entry)) ray (length (now (out .entry))) c ⌝ }
     ensures { λ r. ⌜ now (out .exit) ≡ ifWritten r (front (rayIn (now (file .entry)) c ray) (now (out .entry))) (now (out .entry)) ⌝ }
 {
-    let nr = cuts::rays_in(file, c);
-    let nb = cuts::bins_in(file, c);
+    let nr = sections::rays_in(file, c);
+    let nb = sections::bins_in(file, c);
     if nr <= ray {
         return RayAnswer::Refused(FillRefusal::Argument);
     }
@@ -198,8 +198,8 @@ fn ray_values_on(file: &[u8], c: Cut, ray: usize, marks: &mut [u8], values: &mut
     ensures { λ r. ⌜ now (marks .exit) ≡ ifWritten r (marksOf (productIn (now (file .entry)) c) (rayIn (now (file .entry)) c ray) (now (marks .entry))) (now (marks .entry)) ⌝ }
     ensures { λ r. ⌜ now (values .exit) ≡ ifWritten r (valuesOf (productIn (now (file .entry)) c) (rayIn (now (file .entry)) c ray) (now (values .entry))) (now (values .entry)) ⌝ }
 {
-    let nr = cuts::rays_in(file, c);
-    let nb = cuts::bins_in(file, c);
+    let nr = sections::rays_in(file, c);
+    let nb = sections::bins_in(file, c);
     if nr <= ray {
         return RayAnswer::Refused(FillRefusal::Argument);
     }
@@ -251,8 +251,8 @@ fn bin_value_on(file: &[u8], c: Cut, ray: usize, bin: usize) -> BinAnswer
     requires { ⌜ GoodCut (now file) c ⌝ }
     ensures { λ r. ⌜ r ≡ binOn (now (file .entry)) ray bin c ⌝ }
 {
-    let nr = cuts::rays_in(file, c);
-    let nb = cuts::bins_in(file, c);
+    let nr = sections::rays_in(file, c);
+    let nb = sections::bins_in(file, c);
     if nr <= ray {
         return BinAnswer::Refused(AskRefusal::Argument);
     }
@@ -293,8 +293,8 @@ fn stretches_on(
     ensures { λ r. ⌜ r ≡ stretchesOn (now (file .entry)) t ray bin (length (now (words .entry))) c ⌝ }
     ensures { λ r. ⌜ now (words .exit) ≡ ifListed r (outOf (now (words .entry)) (stretchesIn (now (file .entry)) c t ray bin)) (now (words .entry)) ⌝ }
 {
-    let nr = cuts::rays_in(file, c);
-    let nb = cuts::bins_in(file, c);
+    let nr = sections::rays_in(file, c);
+    let nb = sections::bins_in(file, c);
     if !stretches::right_t(t) {
         return StretchAnswer::Refused(FillRefusal::Argument);
     }

@@ -9,7 +9,7 @@ ghost use mathlib.Core.Bool.{cond};
 ghost use Prim.Native.Nat.{_+_};
 ghost use Rattle.rules.specs.Fields.{lengthAt};
 ghost use Rattle.sections.specs.Refusal.{numberOf, placeOf};
-ghost use Rattle.sections.specs.Parts.{timeOf, gridAt};
+ghost use Rattle.sections.specs.Parts.{binsIn, raysIn, timeOf, gridAt};
 ghost use Rattle.sections.specs.Places.{firstIn};
 
 // Why a file is refused, one case for each of document 01's numbers and for wish 6's, with the place of the section concerned: specs/Refusal.antt.
@@ -198,6 +198,19 @@ pub fn time_of(s: &[u8]) -> Time
         minute,
         second,
     }
+}
+
+// Nb and Nr of a cut.
+pub fn bins_in(s: &[u8], c: Cut) -> usize
+    ensures { λ r. ⌜ r ≡ binsIn (now (s .entry)) c ⌝ }
+{
+    place(rules::field32(s, c.section3, 15))
+}
+
+pub fn rays_in(s: &[u8], c: Cut) -> usize
+    ensures { λ r. ⌜ r ≡ raysIn (now (s .entry)) c ⌝ }
+{
+    place(rules::field32(s, c.section3, 19))
 }
 
 pub fn grid_at(s: &[u8], at: usize) -> Grid

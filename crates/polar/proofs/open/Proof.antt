@@ -1,9 +1,7 @@
 -- By what the walk answers (OnCut.antt).
-use Rattle.polar.proofs.OnCut.{opened-found, opened-bad}
+use Rattle.polar.proofs.OnCut.{file-some, file-bad}
 use Rattle.polar.specs.Opening.{openAnswer}
 use Rattle.polar.specs.declared.Opened.the-variants.{File}
-use Rattle.layout.specs.Verdict.{verdict}
-use denote.Ref.{now}
 use mathlib.Core.Path.{sym, _∙_, ap}
 use borrow.Author.Needs.{needs}
 use Rattle.polar.proofs.open.Statement.{statement}
@@ -23,13 +21,11 @@ enum-known-refusal c = search needs
 
 returns : tie.Need-returns
 unfolding openAnswer
-returns c = let s = now (c .before .before .before .before .before .before .before .args .file) in
-    ap File (c .summary-of .ensures) ∙ sym (opened-found s (verdict s) _ (sym (c .before .before .before .before .before .walk .ensures) ∙ c .before .before .before .f .given .1))
+returns c = ap File (c .summary-of .ensures) ∙ sym (file-some _ _ _ _ (sym (c .before .before .before .before .before .walk .ensures) ∙ c .before .before .before .f .given .1))
 
 returns-2 : tie.Need-returns-2
 unfolding openAnswer
-returns-2 c = let s = now (c .before .before .before .before .before .args .file) in
-    sym (opened-bad s (verdict s) _ (sym (c .before .before .before .walk .ensures) ∙ c .before .refusal .given .1))
+returns-2 c = sym (file-bad _ _ _ _ (sym (c .before .before .before .walk .ensures) ∙ c .before .refusal .given .1))
 
 pub open-spec : {M : Type 1} → statement M
 open-spec =
