@@ -1,0 +1,22 @@
+-- By the cell.
+use Rattle.dualpol.specs.Answers.{binOf}
+use borrow.Author.Needs.{needs}
+use Rattle.dualpol.proofs.bin_of.Statement.{statement}
+use Rattle.dualpol.proofs.bin_of.Tie as tie
+
+enum-told : tie.Need-enum-told
+enum-told c = search needs
+
+enum-known-cell : tie.Need-enum-known-cell
+enum-known-cell c = search needs
+
+returns : tie.Need-returns
+unfolding binOf
+returns c = rw (c .enum-told .given .1)
+
+returns-2 : tie.Need-returns-2
+unfolding binOf
+returns-2 c = rw (c .before .cell .given .1)
+
+pub bin-of-spec : {M : Type 1} → statement M
+bin-of-spec = tie.close (tie.spec enum-told enum-known-cell returns returns-2)

@@ -1,0 +1,44 @@
+-- A law for each way out (Answering.antt).
+use Rattle.dualpol.proofs.Answering.{no-ray, no-bin, bin-is}
+use denote.Ref.{now}
+use native.Mathlib.Omega.{arith}
+use mathlib.Core.Path.{_∙_, ap}
+use Rattle.dualpol.specs.Answers.{binOf}
+use borrow.Author.Needs.{needs}
+use Rattle.dualpol.proofs.bin_value_on.Statement.{statement}
+use Rattle.dualpol.proofs.bin_value_on.Tie as tie
+
+rays-in-requires : tie.Need-rays-in-requires
+rays-in-requires c κs = search needs
+
+bins-in-requires : tie.Need-bins-in-requires
+bins-in-requires c κs = search needs
+
+returns : tie.Need-returns
+returns c = let a = c .before .before .before .before .args in no-ray (now (a .file)) (a .c) (a .ray) (a .bin) (omega (arith, c .before .before .rays-in .ensures))
+
+returns-2 : tie.Need-returns-2
+returns-2 c = let a = c .before .before .before .before .before .args in no-bin (now (a .file)) (a .c) (a .ray) (a .bin) (omega (arith, c .before .before .bins-in .ensures))
+
+told-in-requires : tie.Need-told-in-requires
+told-in-requires c κs = search needs
+
+bin-of-requires : tie.Need-bin-of-requires
+bin-of-requires c κs = search needs
+
+returns-3 : tie.Need-returns-3
+returns-3 c = let a = c .before .before .before .before .before .before .before .args in
+    c .bin-of .ensures ∙ ap binOf (c .before .told-in .ensures)
+    ∙ bin-is (now (a .file)) (a .c) (a .ray) (a .bin) (omega (arith, c .before .before .before .before .before .rays-in .ensures)) (omega (arith, c .before .before .before .before .bins-in .ensures))
+
+pub bin-value-on-spec : {M : Type 1} → statement M
+bin-value-on-spec =
+    tie.close
+    (tie.spec
+    rays-in-requires
+    bins-in-requires
+    returns
+    returns-2
+    told-in-requires
+    bin-of-requires
+    returns-3)

@@ -1,0 +1,57 @@
+-- Wish 6: what open, cut and bin value of a dual-polarisation file answer, for any octets and arguments.
+use Prim.Native.Nat.{ℕ}
+use mathlib.Core.Path.{_≡_}
+use mathlib.Core.List.{List}
+use mathlib.Core.Bool.{cond, _&&_}
+use lib.Dec.{ltb}
+use Rattle.rules.specs.Fields.{parameterAt}
+use Rattle.scaled.specs.declared.Cell.{Cell}
+use Rattle.scaled.specs.declared.Cell.the-variants as L
+use Rattle.sections.specs.Parts.{binsIn, raysIn, timeOf, gridAt}
+use Rattle.sections.specs.declared.Cut.{Cut}
+use Rattle.duallayout.specs.Fields.{siteAt}
+use Rattle.duallayout.specs.Parts.{toldIn}
+use Rattle.duallayout.specs.Verdict.{verdict}
+use Rattle.polar.specs.Cuts.{onFile, onCut}
+use Rattle.polar.specs.declared.AskRefusal.the-variants.{File, Argument}
+use Rattle.polar.specs.declared.BinAnswer.{BinAnswer}
+use Rattle.polar.specs.declared.BinAnswer.the-variants as B
+use Rattle.dualpol.specs.declared.DualSummary.{DualSummary}
+use Rattle.dualpol.specs.declared.DualOpened.{DualOpened}
+use Rattle.dualpol.specs.declared.DualOpened.the-variants as O
+use Rattle.dualpol.specs.declared.DualCut.{DualCut}
+use Rattle.dualpol.specs.declared.DualCut.the-variants as C
+
+-- ── open: as in document 01, with the parameter's number for the product; parameter and site are those of the first cut's section 4 ──
+
+abbrev pub summaryOf : List ℕ → ℕ → Cut → DualSummary
+summaryOf s n c = record { parameter = parameterAt s (c .section4); time = timeOf s; site = siteAt s (c .section4); cuts = n }
+
+unfoldable pub openAnswer : List ℕ → DualOpened
+openAnswer s = onFile O.Refused (λ n c. O.File (summaryOf s n c)) (verdict s)
+
+abbrev pub OpenPromise : List ℕ → DualOpened → Type 0
+OpenPromise s r = r ≡ openAnswer s
+
+-- ── cut: "Nb to Dstart" ──
+
+unfoldable pub cutAnswer : List ℕ → ℕ → DualCut
+cutAnswer s i = onCut (λ r. C.Refused (File r)) (C.Refused Argument) (λ c. C.Cut (gridAt s (c .section3))) i (verdict s)
+
+abbrev pub CutPromise : List ℕ → ℕ → DualCut → Type 0
+CutPromise s i r = r ≡ cutAnswer s i
+
+-- ── bin value: what the bin's cell tells; 10 for the ray or the bin ──
+
+unfoldable pub binOf : Cell → BinAnswer
+binOf L.Missing = B.Missing
+binOf (L.Value x) = B.Value x
+
+unfoldable pub binOn : List ℕ → ℕ → ℕ → Cut → BinAnswer
+binOn s ray bin c = cond (ltb ray (raysIn s c) && ltb bin (binsIn s c)) (binOf (toldIn s c ray bin)) (B.Refused Argument)
+
+unfoldable pub binAnswer : List ℕ → ℕ → ℕ → ℕ → BinAnswer
+binAnswer s i ray bin = onCut (λ r. B.Refused (File r)) (B.Refused Argument) (binOn s ray bin) i (verdict s)
+
+abbrev pub BinPromise : List ℕ → ℕ → ℕ → ℕ → BinAnswer → Type 0
+BinPromise s i ray bin r = r ≡ binAnswer s i ray bin

@@ -1,0 +1,153 @@
+// THE CALLS of a dual-polarisation file: wish 6. Each is lent the whole file, makes all the file's checks itself, then answers or refuses by 10; none asks
+// anything of its caller. What each answers is one definition of specs/. Below it stand `walks` (the file's checks), `duallayout` (this format's own
+// sections), `scaled` (what a cell tells) and `polar`, whose refusals it shares; above it `polar_c` (the calls for C and Rust).
+use polar::AskRefusal;
+use polar::BinAnswer;
+use scaled::Cell;
+use sections::Cut;
+use sections::FileRefusal;
+use sections::Grid;
+use sections::Time;
+use sections::Walked;
+ghost use mathlib.Core.Path.{_≡_};
+ghost use mathlib.Core.Logic.{_⊎_};
+ghost use Prim.Native.Nat.{_+_, _*_, _/_, _≤_, _<_};
+ghost use lib.ListN.{length};
+ghost use Rattle.rules.specs.Rules.{field};
+ghost use Rattle.sections.specs.Parts.{binsIn, raysIn};
+ghost use Rattle.duallayout.specs.Parts.{toldIn};
+ghost use Rattle.duallayout.specs.Good.{GoodCut};
+ghost use Rattle.dualpol.specs.Answers.{summaryOf, OpenPromise, CutPromise, binOf, binOn, BinPromise};
+
+// What is common to all cuts of a file.
+pub struct DualSummary {
+    pub parameter: u8,
+    pub time: Time,
+    pub site: u16,
+    pub cuts: usize,
+}
+
+pub enum DualOpened {
+    File(DualSummary),
+    Refused(FileRefusal),
+}
+
+pub enum DualCut {
+    Cut(Grid),
+    Refused(AskRefusal),
+}
+
+// ---- open and cut
+
+fn summary_of(file: &[u8], n: usize, c: Cut) -> DualSummary
+    ensures { λ r. ⌜ r ≡ summaryOf (now (file .entry)) n c ⌝ }
+{
+    let section4 = c.section4;
+    let parameter = rules::field8(file, section4, 11);
+    let time = sections::time_of(file);
+    let site = rules::field16(file, section4, 28);
+    DualSummary {
+        parameter,
+        time,
+        site,
+        cuts: n,
+    }
+}
+
+// Open: parameter, time, site and number of cuts.
+pub fn open(file: &[u8]) -> DualOpened
+    ensures { λ r. ⌜ OpenPromise (now (file .entry)) r ⌝ }
+{
+    match walks::walk_dual(file, 0) {
+        Walked::Whole(f) => {
+            let c = f.cut;
+            DualOpened::File(summary_of(file, f.cuts, c))
+        }
+        Walked::Rejected(refusal) => DualOpened::Refused(refusal),
+    }
+}
+
+// Cut: what the file says of cut i, Nb to Dstart.
+pub fn cut_info(file: &[u8], i: usize) -> DualCut
+    ensures { λ r. ⌜ CutPromise (now (file .entry)) i r ⌝ }
+{
+    match walks::walk_dual(file, i) {
+        Walked::Whole(f) => {
+            let c = f.cut;
+            if i < f.cuts {
+                return DualCut::Cut(sections::grid_at(file, c.section3));
+            }
+            DualCut::Refused(AskRefusal::Argument)
+        }
+        Walked::Rejected(refusal) => DualCut::Refused(AskRefusal::File(refusal)),
+    }
+}
+
+// ---- bin value
+
+// Cell n of the section 7 at a place, of 8 or 16 bits.
+fn cell_at(file: &[u8], at: usize, width: u8, n: usize) -> u16
+    requires { ⌜ (at ≤ length (now file)) × (n ≤ 2097152) × ((width ≡ 8) ⊎ (width ≡ 16)) ⌝ }
+    ensures { λ r. ⌜ r ≡ field (now (file .entry)) at (6 + n * (width / 8)) (width / 8) ⌝ }
+{
+    let from = at + 5;
+    if width == 8 {
+        return octets::octet(file, from + n) as u16;
+    }
+    octets::be16(file, from + 2 * n)
+}
+
+// What the cell of a bin tells.
+fn told_in(file: &[u8], c: Cut, ray: usize, bin: usize) -> Cell
+    requires { ⌜ GoodCut (now file) c × (ray < raysIn (now file) c) × (bin < binsIn (now file) c) ⌝ }
+    ensures { λ r. ⌜ r ≡ toldIn (now (file .entry)) c ray bin ⌝ }
+{
+    let section5 = c.section5;
+    let r = rules::field32(file, section5, 12);
+    let e = rules::field16(file, section5, 16);
+    let d = rules::field16(file, section5, 18);
+    let width = rules::field8(file, section5, 20);
+    let n = ray * sections::bins_in(file, c) + bin;
+    scaled::cell_of(r, e, d, width, cell_at(file, c.section7, width, n))
+}
+
+// A cell as the bin call answers it.
+fn bin_of(cell: Cell) -> BinAnswer
+    ensures { λ r. ⌜ r ≡ binOf cell ⌝ }
+{
+    match cell {
+        Cell::Missing => BinAnswer::Missing,
+        Cell::Value(x) => BinAnswer::Value(x),
+    }
+}
+
+fn bin_value_on(file: &[u8], c: Cut, ray: usize, bin: usize) -> BinAnswer
+    requires { ⌜ GoodCut (now file) c ⌝ }
+    ensures { λ r. ⌜ r ≡ binOn (now (file .entry)) ray bin c ⌝ }
+{
+    let nr = sections::rays_in(file, c);
+    let nb = sections::bins_in(file, c);
+    if nr <= ray {
+        return BinAnswer::Refused(AskRefusal::Argument);
+    }
+    if nb <= bin {
+        return BinAnswer::Refused(AskRefusal::Argument);
+    }
+    bin_of(told_in(file, c, ray, bin))
+}
+
+// Bin value: missing, or the value.
+pub fn bin_value(file: &[u8], i: usize, ray: usize, bin: usize) -> BinAnswer
+    ensures { λ r. ⌜ BinPromise (now (file .entry)) i ray bin r ⌝ }
+{
+    match walks::walk_dual(file, i) {
+        Walked::Whole(f) => {
+            let c = f.cut;
+            if i < f.cuts {
+                return bin_value_on(file, c, ray, bin);
+            }
+            BinAnswer::Refused(AskRefusal::Argument)
+        }
+        Walked::Rejected(refusal) => BinAnswer::Refused(AskRefusal::File(refusal)),
+    }
+}
