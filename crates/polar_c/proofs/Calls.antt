@@ -4,8 +4,9 @@ use mathlib.Core.Path.{_≡_, sym, _∙_}
 use mathlib.Core.List.{List}
 use lib.IntN.{ℤ}
 use lib.Ieee.{Float}
+use Rattle.polar.specs.declared.BinAnswer.{BinAnswer}
 use Rattle.polar_c.specs.Runs.{RunCheckCall, RunReadCall, RunWriteCall}
-use Rattle.polar_c.specs.Files.{OpenCall, CutCall, RayLevelsCall, RayValuesCall, BinValueCall, StretchesCall}
+use Rattle.polar_c.specs.Files.{Told, BinTold, RayLevelsCall, RayValuesCall, StretchesCall}
 
 pub run-check-one : {v n : ℕ} {octets : List ℕ} {x y : ℕ} → RunCheckCall v n octets x → RunCheckCall v n octets y → x ≡ y
 run-check-one p q = p .returned ∙ sym (q .returned)
@@ -18,12 +19,10 @@ pub run-write-one : {row lent answer : List ℕ} {x y : ℕ} {l l′ w w′ : Li
     RunWriteCall row lent answer x l w → RunWriteCall row lent answer y l′ w′ → (x ≡ y) × (l ≡ l′) × (w ≡ w′)
 run-write-one p q = (p .returned ∙ sym (q .returned), p .held ∙ sym (q .held), p .told ∙ sym (q .told))
 
-pub open-one : {file answer : List ℕ} {x y : ℕ} {w w′ : List ℕ} → OpenCall file answer x w → OpenCall file answer y w′ → (x ≡ y) × (w ≡ w′)
-open-one p q = (p .returned ∙ sym (q .returned), p .told ∙ sym (q .told))
-
-pub cut-one : {file : List ℕ} {cut : ℕ} {answer : List ℤ} {x y : ℕ} {w w′ : List ℤ} →
-    CutCall file cut answer x w → CutCall file cut answer y w′ → (x ≡ y) × (w ≡ w′)
-cut-one p q = (p .returned ∙ sym (q .returned), p .told ∙ sym (q .told))
+-- of open and cut, in both formats
+pub told-one : {R W : Type 0} {numberOf : R → ℕ} {wordsOf : R → List W → List W} {r : R} {answer : List W} {x y : ℕ} {w w′ : List W} →
+    Told numberOf wordsOf r answer x w → Told numberOf wordsOf r answer y w′ → (x ≡ y) × (w ≡ w′)
+told-one p q = (p .returned ∙ sym (q .returned), p .told ∙ sym (q .told))
 
 pub ray-levels-one : {file : List ℕ} {cut ray : ℕ} {lent place : List ℕ} {x y : ℕ} {l l′ w w′ : List ℕ} →
     RayLevelsCall file cut ray lent place x l w → RayLevelsCall file cut ray lent place y l′ w′ → (x ≡ y) × (l ≡ l′) × (w ≡ w′)
@@ -34,9 +33,10 @@ pub ray-values-one : {file : List ℕ} {cut ray : ℕ} {marks : List ℕ} {value
 ray-values-one p q =
     (p .returned ∙ sym (q .returned), p .marked ∙ sym (q .marked), p .held ∙ sym (q .held), p .told ∙ sym (q .told))
 
-pub bin-value-one : {file : List ℕ} {cut ray bin : ℕ} {value : Float} {answer : List ℕ} {x y : ℕ} {v v′ : Float} {w w′ : List ℕ} →
-    BinValueCall file cut ray bin value answer x v w → BinValueCall file cut ray bin value answer y v′ w′ → (x ≡ y) × (v ≡ v′) × (w ≡ w′)
-bin-value-one p q = (p .returned ∙ sym (q .returned), p .held ∙ sym (q .held), p .told ∙ sym (q .told))
+-- of bin value, in both formats
+pub bin-told-one : {r : BinAnswer} {value : Float} {answer : List ℕ} {x y : ℕ} {v v′ : Float} {w w′ : List ℕ} →
+    BinTold r value answer x v w → BinTold r value answer y v′ w′ → (x ≡ y) × (v ≡ v′) × (w ≡ w′)
+bin-told-one p q = (p .returned ∙ sym (q .returned), p .held ∙ sym (q .held), p .told ∙ sym (q .told))
 
 -- of both stretch calls: the house form is the one at the house threshold
 pub stretches-one : {file : List ℕ} {cut : ℕ} {t : ℤ} {ray bin : ℕ} {lent answer : List ℕ} {x y : ℕ} {l l′ w w′ : List ℕ} →

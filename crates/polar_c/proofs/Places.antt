@@ -6,30 +6,50 @@ use mathlib.Core.Bool.{Bool, true, false, cond}
 use native.Mathlib.Omega.{arith}
 use lib.Dec.{ltb}
 use lib.ListN.{length, getD}
-use Rattle.sections.specs.Verdict.{Verdict, accepted, refused, noCut}
-use Rattle.sections.proofs.Inside.{refused-inside}
-use Rattle.layout.specs.Checks.{ownChecks}
-use Rattle.layout.specs.Verdict.{verdict}
-use Rattle.layout.proofs.Own.{own-at}
+use Rattle.sections.specs.Checks.{Own}
+use Rattle.sections.specs.Verdict.{Verdict, accepted, refused, verdictBy, noCut}
+use Rattle.sections.specs.declared.Cut.{Cut}
+use Rattle.sections.proofs.Inside.{OwnAt, refused-inside}
+use Rattle.layout.specs.Checks as L
+use Rattle.layout.proofs.Own as L′
+use Rattle.duallayout.specs.Checks as D
+use Rattle.duallayout.proofs.Own as D′
 use Rattle.polar.specs.Refusals.{askPlace}
 use Rattle.polar.specs.Cuts.{onCut}
 use Rattle.polar.specs.Opening.{infoOf, cutAnswer}
 use Rattle.polar.specs.declared.AskRefusal.{AskRefusal}
 use Rattle.polar.specs.declared.AskRefusal.the-variants.{File, Argument}
-use Rattle.polar.specs.declared.CutInfo.{CutInfo}
 use Rattle.polar.specs.declared.CutAnswer.the-variants as C
+use Rattle.sections.specs.Parts.{gridAt}
+use Rattle.dualpol.specs.Answers as A
+use Rattle.dualpol.specs.declared.DualCut.the-variants as E
 
-none-inside : (b : Bool) (info : CutInfo) (why : AskRefusal) (n : ℕ) → cond b (C.Cut info) (C.Refused Argument) ≡ C.Refused why → askPlace why ≤ n
-none-inside true info why n h = let z : _≡_ {A = ℕ} 0 1 = cc in absurd (omega arith)
-none-inside false info why n h = let e : why ≡ Argument = cc in rw e (omega arith)
+-- a call on a cut of a file of any format, whose answers other than refusals are no refusals
+module _ (own : Own) (own-at : OwnAt own) {R : Type 0} (Refused : AskRefusal → R) (same : (p q : AskRefusal) → Refused p ≡ Refused q → p ≡ q)
+    (some : Cut → R) (other : (c : Cut) (why : AskRefusal) → some c ≡ Refused why → ⊥) where
+  none-inside : (b : Bool) (c : Cut) (why : AskRefusal) (n : ℕ) → cond b (some c) (Refused Argument) ≡ Refused why → askPlace why ≤ n
+  none-inside true c why n h = absurd (other c why h)
+  none-inside false c why n h = rw (← same Argument why h) (omega arith)
 
-on-inside : (s : List ℕ) (i : ℕ) (why : AskRefusal) (v : Verdict) → verdict s ≡ v
-    → onCut (λ r. C.Refused (File r)) (C.Refused Argument) (λ c. C.Cut (infoOf s c)) i v ≡ C.Refused why → askPlace why ≤ length s
-unfolding onCut
-on-inside s i why (accepted cs) e h = none-inside (ltb i (length cs)) (infoOf s (getD cs i noCut)) why (length s) h
-on-inside s i why (refused r) e h = let k : why ≡ File r = cc in rw k (refused-inside ownChecks own-at s r e)
+  on-inside : (s : List ℕ) (i : ℕ) (why : AskRefusal) (v : Verdict) → verdictBy own s ≡ v
+      → onCut (λ r. Refused (File r)) (Refused Argument) some i v ≡ Refused why → askPlace why ≤ length s
+  unfolding onCut
+  on-inside s i why (accepted cs) e h = none-inside (ltb i (length cs)) (getD cs i noCut) why (length s) h
+  on-inside s i why (refused r) e h = rw (← same (File r) why h) (refused-inside own own-at s r e)
 
--- the place that cut answers
+  pub ask-inside : (s : List ℕ) (i : ℕ) (why : AskRefusal)
+      → onCut (λ r. Refused (File r)) (Refused Argument) some i (verdictBy own s) ≡ Refused why → askPlace why ≤ length s
+  ask-inside s i why h = on-inside s i why (verdictBy own s) refl h
+
+-- the place that cut answers, in each format
 pub cut-inside : (s : List ℕ) (i : ℕ) (why : AskRefusal) → cutAnswer s i ≡ C.Refused why → askPlace why ≤ length s
 unfolding cutAnswer
-cut-inside s i why h = on-inside s i why (verdict s) refl h
+cut-inside s =
+    ask-inside L.ownChecks L′.own-at C.Refused (λ p q e. cc e) (λ c. C.Cut (infoOf s c))
+    (λ c why e. let z : _≡_ {A = ℕ} 0 1 = cc e in omega arith) s
+
+pub dual-cut-inside : (s : List ℕ) (i : ℕ) (why : AskRefusal) → A.cutAnswer s i ≡ E.Refused why → askPlace why ≤ length s
+unfolding A.cutAnswer
+dual-cut-inside s =
+    ask-inside D.ownChecks D′.own-at E.Refused (λ p q e. cc e) (λ c. E.Cut (gridAt s (c .section3)))
+    (λ c why e. let z : _≡_ {A = ℕ} 0 1 = cc e in omega arith) s

@@ -14,7 +14,8 @@ use Rattle.polar.specs.Refusals.{askNumber, askPlace, fillNumber, fillPlace}
 use Rattle.polar.specs.Opening.{openAnswer, cutAnswer}
 use Rattle.polar.specs.Rays.{rayAnswer, levelsAfter, marksAfter, valuesAfter, binAnswer}
 use Rattle.polar.specs.Stretching.{stretchAnswer, wordsAfter}
-use Rattle.polar.specs.declared.Summary.{Summary}
+use Rattle.sections.specs.declared.Time.{Time}
+use Rattle.sections.specs.declared.Grid.{Grid}
 use Rattle.polar.specs.declared.Opened.{Opened}
 use Rattle.polar.specs.declared.Opened.the-variants as O
 use Rattle.polar.specs.declared.Elevation.{Elevation}
@@ -41,22 +42,22 @@ openNumber (O.File f) = 0
 openNumber (O.Refused why) = numberOf why
 
 -- place, product, year, month, day, hour, minute, second, site, number of cuts
-abbrev pub summaryWords : Summary → List ℕ
-summaryWords f =
+abbrev pub summaryWords : ℕ → Time → ℕ → ℕ → List ℕ
+summaryWords product time site cuts =
     0
-    ∷ productNumber (f .product)
-    ∷ f .year
-    ∷ f .month
-    ∷ f .day
-    ∷ f .hour
-    ∷ f .minute
-    ∷ f .second
-    ∷ f .site
-    ∷ f .cuts
+    ∷ product
+    ∷ time .year
+    ∷ time .month
+    ∷ time .day
+    ∷ time .hour
+    ∷ time .minute
+    ∷ time .second
+    ∷ site
+    ∷ cuts
     ∷ []
 
 abbrev pub openWords : Opened → List ℕ → List ℕ
-openWords (O.File f) w = sets w 0 (summaryWords f)
+openWords (O.File f) w = sets w 0 (summaryWords (productNumber (f .product)) (f .time) (f .site) (f .cuts))
 openWords (O.Refused why) w = set w 0 (placeOf why)
 
 -- ---- cut
@@ -70,19 +71,21 @@ abbrev pub elevationWords : Elevation → List ℤ
 elevationWords E.Missing = pos 0 ∷ []
 elevationWords (E.Hundredths z) = pos 1 ∷ z ∷ []
 
--- place, Nb, Nr, latitude, longitude, Dx, Dstart, start azimuth, octet 38, elevation
-abbrev pub infoWords : CutInfo → List ℤ
-infoWords info =
+-- place, Nb, Nr, latitude, longitude, Dx, Dstart, and what comes after
+abbrev pub gridWords : Grid → List ℤ → List ℤ
+gridWords grid rest =
     pos 0
-    ∷ pos (info .nb)
-    ∷ pos (info .nr)
-    ∷ info .latitude
-    ∷ pos (info .longitude)
-    ∷ pos (info .dx)
-    ∷ pos (info .dstart)
-    ∷ pos (info .«start_azimuth»)
-    ∷ pos (info .octet38)
-    ∷ elevationWords (info .elevation)
+    ∷ pos (grid .nb)
+    ∷ pos (grid .nr)
+    ∷ grid .latitude
+    ∷ pos (grid .longitude)
+    ∷ pos (grid .dx)
+    ∷ pos (grid .dstart)
+    ∷ rest
+
+-- these, then start azimuth, octet 38, elevation
+abbrev pub infoWords : CutInfo → List ℤ
+infoWords info = gridWords (info .grid) (pos (info .«start_azimuth») ∷ pos (info .octet38) ∷ elevationWords (info .elevation))
 
 abbrev pub cutWords : CutAnswer → List ℤ → List ℤ
 cutWords (C.Cut info) w = sets w 0 (infoWords info)
@@ -127,13 +130,23 @@ stretchWords (S.Listed l) w = sets w 0 (0 ∷ l .count ∷ l .ray ∷ l .bin ∷
 stretchWords (S.Refused why) w = set w 0 (fillPlace why)
 
 -- ---- the promises: the number returned, and each lent memory after the call
-pub record OpenCall (file answer : List ℕ) (number : ℕ) (answer′ : List ℕ) : Type 0 where
-  pub returned : number ≡ openNumber (openAnswer file)
-  pub told : answer′ ≡ openWords (openAnswer file) answer
 
-pub record CutCall (file : List ℕ) (cut : ℕ) (answer : List ℤ) (number : ℕ) (answer′ : List ℤ) : Type 0 where
-  pub returned : number ≡ cutNumber (cutAnswer file cut)
-  pub told : answer′ ≡ cutWords (cutAnswer file cut) answer
+-- an answer r told by its number and its words
+pub record Told {R W : Type 0} (numberOf : R → ℕ) (wordsOf : R → List W → List W) (r : R) (answer : List W) (number : ℕ) (answer′ : List W) : Type 0 where
+  pub returned : number ≡ numberOf r
+  pub told : answer′ ≡ wordsOf r answer
+
+-- a bin's answer r, whose value goes to a float of its own
+pub record BinTold (r : BinAnswer) (value : Float) (answer : List ℕ) (number : ℕ) (value′ : Float) (answer′ : List ℕ) : Type 0 where
+  pub returned : number ≡ binNumber r
+  pub held : value′ ≡ binHeld r value
+  pub told : answer′ ≡ binWords r answer
+
+abbrev pub OpenCall : List ℕ → List ℕ → ℕ → List ℕ → Type 0
+OpenCall file = Told openNumber openWords (openAnswer file)
+
+abbrev pub CutCall : List ℕ → ℕ → List ℤ → ℕ → List ℤ → Type 0
+CutCall file cut = Told cutNumber cutWords (cutAnswer file cut)
 
 pub record RayLevelsCall (file : List ℕ) (cut ray : ℕ) (levels place : List ℕ) (number : ℕ) (levels′ place′ : List ℕ) : Type 0 where
   pub returned : number ≡ rayNumber (rayAnswer file cut ray (length levels))
@@ -147,10 +160,8 @@ pub record RayValuesCall (file : List ℕ) (cut ray : ℕ) (marks : List ℕ) (v
   pub held : values′ ≡ valuesAfter (rayAnswer file cut ray (min (length marks) (length values))) file cut ray values
   pub told : place′ ≡ rayWords (rayAnswer file cut ray (min (length marks) (length values))) place
 
-pub record BinValueCall (file : List ℕ) (cut ray bin : ℕ) (value : Float) (answer : List ℕ) (number : ℕ) (value′ : Float) (answer′ : List ℕ) : Type 0 where
-  pub returned : number ≡ binNumber (binAnswer file cut ray bin)
-  pub held : value′ ≡ binHeld (binAnswer file cut ray bin) value
-  pub told : answer′ ≡ binWords (binAnswer file cut ray bin) answer
+abbrev pub BinValueCall : List ℕ → ℕ → ℕ → ℕ → Float → List ℕ → ℕ → Float → List ℕ → Type 0
+BinValueCall file cut ray bin = BinTold (binAnswer file cut ray bin)
 
 pub record StretchesCall (file : List ℕ) (cut : ℕ) (t : ℤ) (ray bin : ℕ) (words answer : List ℕ) (number : ℕ) (words′ answer′ : List ℕ) : Type 0 where
   pub returned : number ≡ stretchNumber (stretchAnswer file cut t ray bin (length words))

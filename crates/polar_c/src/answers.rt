@@ -1,8 +1,11 @@
 // How each answer goes out: the number returned, and the words of the lent answer. One function to an answer.
 ghost use mathlib.Core.Path.{_≡_};
+ghost use mathlib.Core.List.{[]};
 ghost use lib.Seq.{sets};
 ghost use Rattle.polar_c.specs.Runs.{runReadNumber, runReadWords, runWriteNumber, runWriteWords};
-ghost use Rattle.polar_c.specs.Files.{productNumber, openNumber, openWords, elevationWords, infoWords, rayNumber, rayWords, binNumber, binWords, binHeld, stretchNumber, stretchWords};
+ghost use Rattle.polar_c.specs.Files.{productNumber, summaryWords, gridWords, openNumber, openWords, elevationWords, infoWords, rayNumber, rayWords, binNumber, binWords, binHeld, stretchNumber, stretchWords};
+ghost use Rattle.polar_c.specs.Dual.{openNumber as dualOpenNumber, openWords as dualOpenWords};
+use dualpol::DualOpened;
 use packing::RunWrite;
 use polar::BinAnswer;
 use polar::CutInfo;
@@ -11,6 +14,8 @@ use polar::Opened;
 use polar::RayAnswer;
 use polar::StretchAnswer;
 use runs::RunRead;
+use sections::Grid;
+use sections::Time;
 use values::Product;
 
 // ---- of the run calls
@@ -62,7 +67,22 @@ fn product_number(product: Product) -> u64
     }
 }
 
-// place, product, year, month, day, hour, minute, second, site, number of cuts
+// of both formats' open: place, product or parameter, year, month, day, hour, minute, second, site, number of cuts
+fn tell_summary(product: u64, time: Time, site: u16, cuts: usize, answer: &mut [u64; 10])
+    ensures { λ r. ⌜ now (answer .exit) ≡ sets (now (answer .entry)) 0 (summaryWords product time site cuts) ⌝ }
+{
+    answer[0] = 0;
+    answer[1] = product;
+    answer[2] = time.year as u64;
+    answer[3] = time.month as u64;
+    answer[4] = time.day as u64;
+    answer[5] = time.hour as u64;
+    answer[6] = time.minute as u64;
+    answer[7] = time.second as u64;
+    answer[8] = site as u64;
+    answer[9] = cuts as u64;
+}
+
 pub fn tell_open(told: Opened, answer: &mut [u64; 10]) -> u32
     ensures { λ r. ⌜ r ≡ openNumber told ⌝ }
     ensures { λ r. ⌜ now (answer .exit) ≡ openWords told (now (answer .entry)) ⌝ }
@@ -70,16 +90,8 @@ pub fn tell_open(told: Opened, answer: &mut [u64; 10]) -> u32
     match told {
         Opened::File(f) => {
             let product = f.product;
-            answer[0] = 0;
-            answer[1] = product_number(product);
-            answer[2] = f.year as u64;
-            answer[3] = f.month as u64;
-            answer[4] = f.day as u64;
-            answer[5] = f.hour as u64;
-            answer[6] = f.minute as u64;
-            answer[7] = f.second as u64;
-            answer[8] = f.site as u64;
-            answer[9] = f.cuts as u64;
+            let time = f.time;
+            tell_summary(product_number(product), time, f.site, f.cuts, answer);
             0
         }
         Opened::Refused(why) => {
@@ -109,13 +121,14 @@ pub fn tell_info(info: CutInfo, answer: &mut [i64; 11])
     ensures { λ r. ⌜ now (answer .exit) ≡ sets (now (answer .entry)) 0 (infoWords info) ⌝ }
 {
     let elevation = info.elevation;
+    let grid = info.grid;
     answer[0] = 0;
-    answer[1] = info.nb as i64;
-    answer[2] = info.nr as i64;
-    answer[3] = info.latitude as i64;
-    answer[4] = info.longitude as i64;
-    answer[5] = info.dx as i64;
-    answer[6] = info.dstart as i64;
+    answer[1] = grid.nb as i64;
+    answer[2] = grid.nr as i64;
+    answer[3] = grid.latitude as i64;
+    answer[4] = grid.longitude as i64;
+    answer[5] = grid.dx as i64;
+    answer[6] = grid.dstart as i64;
     answer[7] = info.start_azimuth as i64;
     answer[8] = info.octet38 as i64;
     tell_elevation(elevation, answer);
@@ -181,4 +194,36 @@ pub fn tell_stretches(told: StretchAnswer, answer: &mut [u64; 4]) -> u32
             crate::refusals::fill_number(why)
         }
     }
+}
+
+// ---- of the calls of a dual-polarisation file
+
+pub fn tell_dual_open(told: DualOpened, answer: &mut [u64; 10]) -> u32
+    ensures { λ r. ⌜ r ≡ dualOpenNumber told ⌝ }
+    ensures { λ r. ⌜ now (answer .exit) ≡ dualOpenWords told (now (answer .entry)) ⌝ }
+{
+    match told {
+        DualOpened::File(f) => {
+            let time = f.time;
+            tell_summary(f.parameter as u64, time, f.site, f.cuts, answer);
+            0
+        }
+        DualOpened::Refused(why) => {
+            answer[0] = crate::refusals::file_place(why);
+            sections::number_of(why)
+        }
+    }
+}
+
+// place, Nb, Nr, latitude, longitude, Dx, Dstart
+pub fn tell_grid(grid: Grid, answer: &mut [i64; 7])
+    ensures { λ r. ⌜ now (answer .exit) ≡ sets (now (answer .entry)) 0 (gridWords grid []) ⌝ }
+{
+    answer[0] = 0;
+    answer[1] = grid.nb as i64;
+    answer[2] = grid.nr as i64;
+    answer[3] = grid.latitude as i64;
+    answer[4] = grid.longitude as i64;
+    answer[5] = grid.dx as i64;
+    answer[6] = grid.dstart as i64;
 }

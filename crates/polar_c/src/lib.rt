@@ -4,11 +4,13 @@
 ghost use mathlib.Core.Path.{_≡_};
 ghost use Rattle.polar.specs.Stretching.{house};
 ghost use Rattle.polar_c.specs.Runs.{RunCheckCall, RunReadCall, RunWriteCall};
+ghost use Rattle.polar_c.specs.Dual.{DualOpenCall, DualCutCall, DualBinCall};
 ghost use Rattle.polar_c.specs.Files.{OpenCall, CutCall, RayLevelsCall, RayValuesCall, BinValueCall, StretchesCall};
 
 mod answers;
 mod refusals;
 
+use dualpol::DualCut;
 use polar::CutAnswer;
 use runs::RunCheck;
 
@@ -147,4 +149,46 @@ pub extern "C" fn polar_house_stretches(
     ensures { λ r. ⌜ StretchesCall (now (file .entry)) cut house ray bin (now (words .entry)) (now (answer .entry)) r (now (words .exit)) (now (answer .exit)) ⌝ }
 {
     answers::tell_stretches(polar::house_stretches(file, cut, ray, bin, words), answer)
+}
+
+// ---- dual-polarisation files
+
+// Open: `answer` is place, parameter, year, month, day, hour, minute, second, site, number of cuts.
+#[no_mangle]
+pub extern "C" fn polar_dual_open(file: &[u8], answer: &mut [u64; 10]) -> u32
+    ensures { λ r. ⌜ DualOpenCall (now (file .entry)) (now (answer .entry)) r (now (answer .exit)) ⌝ }
+{
+    answers::tell_dual_open(dualpol::open(file), answer)
+}
+
+// Cut: `answer` is place, Nb, Nr, latitude, longitude, Dx, Dstart.
+#[no_mangle]
+pub extern "C" fn polar_dual_cut(file: &[u8], cut: usize, answer: &mut [i64; 7]) -> u32
+    ensures { λ r. ⌜ DualCutCall (now (file .entry)) cut (now (answer .entry)) r (now (answer .exit)) ⌝ }
+{
+    match dualpol::cut_info(file, cut) {
+        DualCut::Cut(grid) => {
+            answers::tell_grid(grid, answer);
+            0
+        }
+        DualCut::Refused(why) => {
+            answer[0] = refusals::ask_place(why) as i64;
+            refusals::ask_number(why)
+        }
+    }
+}
+
+// Bin value: `value` is set where the bin is measured; `answer` is place, mark.
+#[no_mangle]
+pub extern "C" fn polar_dual_bin_value(
+    file: &[u8],
+    cut: usize,
+    ray: usize,
+    bin: usize,
+    value: &mut f64,
+    answer: &mut [u64; 2],
+) -> u32
+    ensures { λ r. ⌜ DualBinCall (now (file .entry)) cut ray bin (now (value .entry)) (now (answer .entry)) r (now (value .exit)) (now (answer .exit)) ⌝ }
+{
+    answers::tell_bin(dualpol::bin_value(file, cut, ray, bin), value, answer)
 }

@@ -22,7 +22,7 @@ element-set-from-answer-2 : tie.Need-element-set-from-answer-2
 element-set-from-answer-2 c = search needs
 
 cast-answer-3 : tie.Need-cast-answer-3
-cast-answer-3 c = signed-fits (c .before .before .before .before .args .info .latitude) (c .struct-told .given .1 .1 .0 .1)
+cast-answer-3 c = signed-fits (c .before .before .before .before .before .args .info .grid .latitude) (c .struct-told .given .1 .1 .0 .1)
 
 element-set-from-answer-3 : tie.Need-element-set-from-answer-3
 element-set-from-answer-3 c = search needs
@@ -62,8 +62,10 @@ tell-elevation-requires c κs = search needs
 
 returns : tie.Need-returns
 returns c =
-    let i = c .before .before .before .before .before .before .before .before .before .before .before .args .info in
+    let a = c .before .before .before .before .before .before .before .before .before .before .before .before .args .info in
+    let i = a .grid in
     let g = c .before .before .before .before .before .before .before .struct-told .given in
+    let h = c .before .before .struct-known8 .given in
     c .tell-elevation .ensures
     ∙ rw (
       unsigned-word (i .nb) (g .0 .1),
@@ -72,8 +74,8 @@ returns c =
       unsigned-word (i .longitude) (g .1 .1 .1 .0 .1),
       unsigned-word (i .dx) (g .1 .1 .1 .1 .0 .1),
       unsigned-word (i .dstart) (g .1 .1 .1 .1 .1 .0 .1),
-      unsigned-word (i .«start_azimuth») (omega (arith, g .1 .1 .1 .1 .1 .1 .0 .1)),
-      unsigned-word (i .octet38) (omega (arith, g .1 .1 .1 .1 .1 .1 .1 .0 .1)),
+      unsigned-word (a .«start_azimuth») (omega (arith, h .1 .0)),
+      unsigned-word (a .octet38) (omega (arith, h .1 .1 .0)),
     )
 
 pub tell-info-spec : {M : Type 1} → statement M
