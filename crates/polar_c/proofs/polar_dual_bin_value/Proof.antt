@@ -11,7 +11,7 @@ tell-bin-requires : tie.Need-tell-bin-requires
 tell-bin-requires c κs = search needs
 
 returns : tie.Need-returns
-returns c = 
+returns c =
     let e = sym (c .before .before .before .bin-value .ensures) in
     record { returned = rw e (c .tell-bin .ensures .0); held = rw e (c .tell-bin .ensures .1 .0); told = rw e (c .tell-bin .ensures .1 .1) }
 

@@ -24,7 +24,7 @@ ask-place-requires : tie.Need-ask-place-requires
 ask-place-requires c κs = search needs
 
 cast-answer : tie.Need-cast-answer
-cast-answer c = 
+cast-answer c =
     let a = c .before .before .before .before .before .before .args in
     let h = dual-cut-inside (a .file .now) (a .cut) _ (sym (c .before .before .before .before .cut-info .ensures) ∙ c .before .before .why .given .1) in
     let e = c .ask-place .ensures in
@@ -37,12 +37,12 @@ ask-number-requires : tie.Need-ask-number-requires
 ask-number-requires c κs = search needs
 
 returns : tie.Need-returns
-returns c = 
+returns c =
     let e = sym (c .before .before .before .before .before .cut-info .ensures) ∙ c .before .before .before .grid .given .1 in
     record { returned = rw e refl; told = rw e (c .tell-grid .ensures) }
 
 returns-2 : tie.Need-returns-2
-returns-2 c = 
+returns-2 c =
     let a = c .before .before .before .before .before .before .before .args in
     let e = sym (c .before .before .before .before .before .cut-info .ensures) ∙ c .before .before .before .why .given .1 in
     let h = dual-cut-inside (a .file .now) (a .cut) _ e in

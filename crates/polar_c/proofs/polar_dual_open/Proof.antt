@@ -11,7 +11,7 @@ tell-dual-open-requires : tie.Need-tell-dual-open-requires
 tell-dual-open-requires c κs = search needs
 
 returns : tie.Need-returns
-returns c = 
+returns c =
     let e = sym (c .before .before .open .ensures) in
     record { returned = rw e (c .tell-dual-open .ensures .0); told = rw e (c .tell-dual-open .ensures .1) }
 
