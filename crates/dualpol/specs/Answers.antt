@@ -5,14 +5,15 @@ use mathlib.Core.List.{List}
 use mathlib.Core.Bool.{cond, _&&_}
 use lib.Dec.{ltb}
 use Rattle.rules.specs.Fields.{parameterAt}
+use Rattle.scaled.specs.Scaled.{Right}
 use Rattle.scaled.specs.declared.Cell.{Cell}
 use Rattle.scaled.specs.declared.Cell.the-variants as L
 use Rattle.sections.specs.Parts.{binsIn, raysIn, timeOf, gridAt}
 use Rattle.sections.specs.declared.Cut.{Cut}
 use Rattle.duallayout.specs.Fields.{siteAt}
-use Rattle.duallayout.specs.Parts.{toldIn}
+use Rattle.duallayout.specs.Parts.{referenceIn, binaryIn, decimalIn, cellIn, toldIn}
 use Rattle.duallayout.specs.Verdict.{verdict}
-use Rattle.polar.specs.Cuts.{onFile, onCut}
+use Rattle.polar.specs.Cuts.{onFile, onCut, cutAt}
 use Rattle.polar.specs.declared.AskRefusal.the-variants.{File, Argument}
 use Rattle.polar.specs.declared.BinAnswer.{BinAnswer}
 use Rattle.polar.specs.declared.BinAnswer.the-variants as B
@@ -53,5 +54,12 @@ binOn s ray bin c = cond (ltb ray (raysIn s c) && ltb bin (binsIn s c)) (binOf (
 unfoldable pub binAnswer : List ℕ → ℕ → ℕ → ℕ → BinAnswer
 binAnswer s i ray bin = onCut (λ r. B.Refused (File r)) (B.Refused Argument) (binOn s ray bin) i (verdict s)
 
-abbrev pub BinPromise : List ℕ → ℕ → ℕ → ℕ → BinAnswer → Type 0
-BinPromise s i ray bin r = r ≡ binAnswer s i ray bin
+-- a value is within |Y| / 2^51 of the exact Y, and zero where Y is 0
+abbrev pub RightIn : List ℕ → ℕ → ℕ → Cut → BinAnswer → Type 0
+RightIn s ray bin c B.Missing = Unit {0}
+RightIn s ray bin c (B.Value y) = Right y (referenceIn s c) (cellIn s c ray bin) (binaryIn s c) (decimalIn s c)
+RightIn s ray bin c (B.Refused q) = Unit {0}
+
+pub record BinPromise (s : List ℕ) (i ray bin : ℕ) (r : BinAnswer) : Type 0 where
+  pub answer : r ≡ binAnswer s i ray bin
+  pub near : RightIn s ray bin (cutAt i (verdict s)) r

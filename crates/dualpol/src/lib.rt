@@ -14,10 +14,11 @@ ghost use mathlib.Core.Logic.{_⊎_};
 ghost use Prim.Native.Nat.{_+_, _*_, _/_, _≤_, _<_};
 ghost use lib.ListN.{length};
 ghost use Rattle.rules.specs.Rules.{field};
+ghost use Rattle.scaled.specs.Scaled.{RightCell};
 ghost use Rattle.sections.specs.Parts.{binsIn, raysIn};
-ghost use Rattle.duallayout.specs.Parts.{toldIn};
+ghost use Rattle.duallayout.specs.Parts.{referenceIn, binaryIn, decimalIn, cellIn, toldIn};
 ghost use Rattle.duallayout.specs.Good.{GoodCut};
-ghost use Rattle.dualpol.specs.Answers.{summaryOf, OpenPromise, CutPromise, binOf, binOn, BinPromise};
+ghost use Rattle.dualpol.specs.Answers.{summaryOf, OpenPromise, CutPromise, binOf, binOn, RightIn, BinPromise};
 
 // What is common to all cuts of a file.
 pub struct DualSummary {
@@ -100,7 +101,8 @@ fn cell_at(file: &[u8], at: usize, width: u8, n: usize) -> u16
 // What the cell of a bin tells.
 fn told_in(file: &[u8], c: Cut, ray: usize, bin: usize) -> Cell
     requires { ⌜ GoodCut (now file) c × (ray < raysIn (now file) c) × (bin < binsIn (now file) c) ⌝ }
-    ensures { λ r. ⌜ r ≡ toldIn (now (file .entry)) c ray bin ⌝ }
+    ensures exact { λ r. ⌜ r ≡ toldIn (now (file .entry)) c ray bin ⌝ }
+    ensures near { λ r. ⌜ RightCell r (referenceIn (now (file .entry)) c) (cellIn (now (file .entry)) c ray bin) (binaryIn (now (file .entry)) c) (decimalIn (now (file .entry)) c) ⌝ }
 {
     let section5 = c.section5;
     let r = rules::field32(file, section5, 12);
@@ -123,7 +125,8 @@ fn bin_of(cell: Cell) -> BinAnswer
 
 fn bin_value_on(file: &[u8], c: Cut, ray: usize, bin: usize) -> BinAnswer
     requires { ⌜ GoodCut (now file) c ⌝ }
-    ensures { λ r. ⌜ r ≡ binOn (now (file .entry)) ray bin c ⌝ }
+    ensures exact { λ r. ⌜ r ≡ binOn (now (file .entry)) ray bin c ⌝ }
+    ensures near { λ r. ⌜ RightIn (now (file .entry)) ray bin c r ⌝ }
 {
     let nr = sections::rays_in(file, c);
     let nb = sections::bins_in(file, c);

@@ -1,5 +1,5 @@
 -- A law for each way out (Answering.antt).
-use Rattle.dualpol.proofs.Answering.{no-ray, no-bin, bin-is}
+use Rattle.dualpol.proofs.Answering.{no-ray, no-bin, bin-is, right-is}
 use denote.Ref.{now}
 use native.Mathlib.Omega.{arith}
 use mathlib.Core.Path.{_∙_, ap}
@@ -15,10 +15,10 @@ bins-in-requires : tie.Need-bins-in-requires
 bins-in-requires c κs = search needs
 
 returns : tie.Need-returns
-returns c = let a = c .before .before .before .before .args in no-ray (now (a .file)) (a .c) (a .ray) (a .bin) (omega (arith, c .before .before .rays-in .ensures))
+returns c = let a = c .before .before .before .before .args in (no-ray (now (a .file)) (a .c) (a .ray) (a .bin) (omega (arith, c .before .before .rays-in .ensures)), tt)
 
 returns-2 : tie.Need-returns-2
-returns-2 c = let a = c .before .before .before .before .before .args in no-bin (now (a .file)) (a .c) (a .ray) (a .bin) (omega (arith, c .before .before .bins-in .ensures))
+returns-2 c = let a = c .before .before .before .before .before .args in (no-bin (now (a .file)) (a .c) (a .ray) (a .bin) (omega (arith, c .before .before .bins-in .ensures)), tt)
 
 told-in-requires : tie.Need-told-in-requires
 told-in-requires c κs = search needs
@@ -28,8 +28,10 @@ bin-of-requires c κs = search needs
 
 returns-3 : tie.Need-returns-3
 returns-3 c = let a = c .before .before .before .before .before .before .before .args in
-    c .bin-of .ensures ∙ ap binOf (c .before .told-in .ensures)
-    ∙ bin-is (now (a .file)) (a .c) (a .ray) (a .bin) (omega (arith, c .before .before .before .before .before .rays-in .ensures)) (omega (arith, c .before .before .before .before .bins-in .ensures))
+    let e = c .bin-of .ensures ∙ ap binOf (c .before .told-in .ensures .0) in (
+      e ∙ bin-is (now (a .file)) (a .c) (a .ray) (a .bin) (omega (arith, c .before .before .before .before .before .rays-in .ensures)) (omega (arith, c .before .before .before .before .bins-in .ensures)),
+      rw (c .bin-of .ensures) (right-is (now (a .file)) (a .c) (a .ray) (a .bin) (c .before .told-in .result) (c .before .told-in .ensures .1)),
+    )
 
 pub bin-value-on-spec : {M : Type 1} → statement M
 bin-value-on-spec =

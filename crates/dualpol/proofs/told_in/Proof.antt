@@ -3,9 +3,10 @@ use Rattle.sections.specs.Parts.{raysIn}
 use Rattle.duallayout.specs.Fields.{referenceAt, binaryAt, decimalAt, widthAt}
 use Rattle.duallayout.specs.Parts.{referenceIn, binaryIn, decimalIn, widthIn, cellIn, toldIn}
 use Rattle.dualpol.proofs.Cells.{few-cells}
+use Rattle.dualpol.proofs.Answering.{right-at}
 use denote.Ref.{now}
 use native.Mathlib.Omega.{arith}
-use mathlib.Core.Path.{_∙_}
+use mathlib.Core.Path.{_≡_}
 use borrow.Author.Needs.{needs}
 use Rattle.dualpol.proofs.told_in.Statement.{statement}
 use Rattle.dualpol.proofs.told_in.Tie as tie
@@ -41,7 +42,11 @@ cell-of-requires c κs = rw (c .before .before .before .before .before .field32 
 
 returns : tie.Need-returns
 unfolding toldIn cellIn referenceIn referenceAt binaryIn binaryAt decimalIn decimalAt widthIn widthAt
-returns c = cc
+returns c =
+    let a = c .before .before .before .before .before .before .before .before .args in
+    let s = now (a .file) in
+    let z : c .before .cell-at .result ≡ cellIn s (a .c) (a .ray) (a .bin) = cc in
+    (cc, right-at (c .cell-of .result) (c .before .before .before .before .before .before .field32 .ensures) z (c .before .before .before .before .before .field16 .ensures) (c .before .before .before .before .field162 .ensures) (c .cell-of .ensures .1))
 
 pub told-in-spec : {M : Type 1} → statement M
 told-in-spec =
