@@ -133,13 +133,13 @@ fn judge5(s: &[u8], st: State) -> Judged
 {
     let at = st.at;
     let len = rules::field32(s, at, 1);
-    let fields = fields5(s, at);
+    let named = fields5(s, at);
     let packing = packing_ok(s, at);
     let said = sections::wide(rules::field32(s, at, 6));
     let points = rules::points_at(s, st.section3);
     let last = sections::unless(said == points, FileRefusal::Points(at), sections::fine());
     let past5 = sections::unless(packing, FileRefusal::Unread(at), last);
-    let past4 = sections::unless(fields, FileRefusal::Field(at), past5);
+    let past4 = sections::unless(named, FileRefusal::Field(at), past5);
     sections::unless(len == 21, FileRefusal::Length(at), past4)
 }
 

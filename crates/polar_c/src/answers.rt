@@ -216,14 +216,14 @@ pub fn tell_dual_open(told: DualOpened, answer: &mut [u64; 10]) -> u32
 }
 
 // place, Nb, Nr, latitude, longitude, Dx, Dstart
-pub fn tell_grid(grid: Grid, answer: &mut [i64; 7])
-    ensures { λ r. ⌜ now (answer .exit) ≡ sets (now (answer .entry)) 0 (gridWords grid []) ⌝ }
+pub fn tell_grid(cut: Grid, answer: &mut [i64; 7])
+    ensures { λ r. ⌜ now (answer .exit) ≡ sets (now (answer .entry)) 0 (gridWords cut []) ⌝ }
 {
     answer[0] = 0;
-    answer[1] = grid.nb as i64;
-    answer[2] = grid.nr as i64;
-    answer[3] = grid.latitude as i64;
-    answer[4] = grid.longitude as i64;
-    answer[5] = grid.dx as i64;
-    answer[6] = grid.dstart as i64;
+    answer[1] = cut.nb as i64;
+    answer[2] = cut.nr as i64;
+    answer[3] = cut.latitude as i64;
+    answer[4] = cut.longitude as i64;
+    answer[5] = cut.dx as i64;
+    answer[6] = cut.dstart as i64;
 }

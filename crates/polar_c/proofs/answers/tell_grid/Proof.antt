@@ -20,7 +20,7 @@ element-set-from-answer-2 : tie.Need-element-set-from-answer-2
 element-set-from-answer-2 c = search needs
 
 cast-answer-3 : tie.Need-cast-answer-3
-cast-answer-3 c = signed-fits (c .before .before .before .before .args .grid .latitude) (c .struct-told .given .1 .1 .0 .1)
+cast-answer-3 c = signed-fits (c .before .before .before .before .args .cut .latitude) (c .struct-told .given .1 .1 .0 .1)
 
 element-set-from-answer-3 : tie.Need-element-set-from-answer-3
 element-set-from-answer-3 c = search needs
@@ -45,7 +45,7 @@ element-set-from-answer-6 c = search needs
 
 returns : tie.Need-returns
 returns c =
-    let i = c .before .before .before .before .before .before .before .args .grid in
+    let i = c .before .before .before .before .before .before .before .args .cut in
     let g = c .before .before .before .struct-told .given in
     rw (
       unsigned-word (i .nb) (g .0 .1),
