@@ -1,2 +1,3 @@
 pub mod Single
 pub mod Right
+pub mod Strict
