@@ -1,6 +1,6 @@
 // One cut of an accepted file, read by the places of its sections: Nb, Nr, V, its data; a ray's levels, a bin's level, its stretches. Every function that
 // reads data asks that the cut is good (specs/Good.antt of `layout`), which the file's checks have shown, and tests nothing again. Below it stand
-// `layout`, `runs`, `values` and `stretches`; above it `polar`, whose calls make the checks, and `lister`, which goes over all cuts of a file.
+// `sections`, `layout`, `runs`, `values` and `stretches`; above it `polar`, whose calls make the checks, and `lister`, which goes over all cuts of a file.
 use sections::Cut;
 use stretches::Listing;
 ghost use mathlib.Core.Path.{_≡_};

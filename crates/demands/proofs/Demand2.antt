@@ -2,7 +2,7 @@
 -- calls answer for exactly those bins, at the ray and bin asked. Each level above 0 gets its published value; level 0 never gets a number. Levels written
 -- as run-length octets read back. The idea: on an accepted file each answer is that of the cut asked for, and the cut's bins are what its data decodes to.
 use Prim.Native.Nat.{ℕ, _*_, _^_, _≤_, _<_, min}
-use mathlib.Core.Path.{_≡_, refl, sym, _∙_, ap}
+use mathlib.Core.Path.{_≡_, sym, _∙_, ap}
 use mathlib.Core.List.{List}
 use native.Mathlib.Omega.{arith}
 use borrow.Author.Tests.{lt-ltb, le-ltb}
@@ -27,7 +27,7 @@ use Rattle.values.proofs.Readings.{no-number, its-number, published-near}
 use Rattle.values.proofs.Over.{mark-at, value-at}
 use Rattle.sections.specs.Parts.{binsIn, raysIn}
 use Rattle.layout.specs.Parts.{dataAt, productIn, greatestIn, levelsIn, levelIn}
-use Rattle.sections.specs.Verdict.{Verdict, accepted, refused, noCut}
+use Rattle.sections.specs.Verdict.{accepted, noCut}
 use Rattle.layout.specs.Verdict.{verdict}
 use Rattle.layout.specs.Checks.{ownChecks}
 use Rattle.layout.specs.Accepted.{kinds, Accepted}

@@ -1,13 +1,13 @@
 -- Each cut of an accepted file is good: its section 3, wherever it stands, and its own sections 4 to 7 are those of `Accepted`.
-use Prim.Native.Nat.{ℕ, _+_, _*_, _/_, _≤_, _<_}
+use Prim.Native.Nat.{ℕ, _+_, _*_, _/_, _<_}
 use mathlib.Core.Path.{_≡_, sym, _∙_, ap, subst}
 use mathlib.Core.List.{List}
-use mathlib.Core.Bool.{true, _||_}
+use mathlib.Core.Bool.{true}
 use mathlib.Core.Logic.{_⊎_, inl, inr}
 use native.Mathlib.Omega.{arith}
 use native.Mathlib.Nat.{mul-comm, le-antisymm}
 use lib.ListN.{length, getD}
-use Rattle.rules.specs.Rules.{Rule, is, meets}
+use Rattle.rules.specs.Rules.{is, meets}
 use Rattle.rules.specs.Fields.{binsAt, raysAt, pointsAt}
 use Rattle.rules.proofs.Bounds.{nth-rule, within-is, bins-bound, rays-bound}
 use Rattle.scaled.specs.Scaled.{Packing}

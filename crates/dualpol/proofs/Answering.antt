@@ -4,7 +4,6 @@ use mathlib.Core.Path.{_≡_, subst}
 use mathlib.Core.List.{List}
 use mathlib.Core.Bool.{and-false}
 use borrow.Author.Tests.{lt-ltb, le-ltb}
-use native.Mathlib.Omega.{arith}
 use Rattle.scaled.specs.Scaled.{RightCell}
 use Rattle.scaled.specs.declared.Cell.{Cell}
 use Rattle.scaled.specs.declared.Cell.the-variants as L

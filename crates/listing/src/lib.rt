@@ -1,7 +1,7 @@
 // The whole text of a file's list, written page by page: document 01, "The lister". specs/Listing.antt has the text as one definition, `textOf`; `start`
 // gives the standing before the first octet, and `page` writes the next octets of the text and hands the next standing on (proofs/Pages.antt: the
 // pages joined are the text). The file's checks are made once. The words of a listing are kept between pages, so that a cut is listed in few
-// portions, however small the page. Below it stand `layout`, `cuts`, `stretches` and `lines`; above it the programs.
+// portions, however small the page. Below it stand `walks`, `cuts`, `stretches` and `lines`; above it the programs.
 use sections::Cut;
 use sections::FileRefusal;
 use sections::Walked;
@@ -12,7 +12,7 @@ ghost use mathlib.Core.Bool.{false};
 ghost use mathlib.Core.List.{List};
 ghost use Prim.Native.Nat.{ℕ, _+_, _≤_, _<_, min};
 ghost use lib.ListN.{length};
-ghost use Rattle.sections.specs.Refusal.{numberOf, placeOf};
+ghost use Rattle.sections.specs.Refusal.{numberOf};
 ghost use Rattle.stretches.specs.Stretch.{perEntry};
 ghost use Rattle.lines.specs.Put.{Put, lineRoom};
 ghost use Rattle.listing.specs.Listing.{productNumber, headOf, textOf};

@@ -3,13 +3,11 @@ use Prim.Native.Nat.{ℕ}
 use mathlib.Core.List.{List}
 use mathlib.Core.Bool.{cond}
 use lib.Dec.{eqb}
-use lib.ListN.{length, getD}
 use Rattle.octets.specs.Octets.{signed}
 use Rattle.rules.specs.Rules.{field}
 use Rattle.rules.specs.Fields.{siteAt}
 use Rattle.sections.specs.Parts.{timeOf, gridAt}
 use Rattle.layout.specs.Parts.{productIn}
-use Rattle.sections.specs.Verdict.{Verdict, accepted, refused, noCut}
 use Rattle.layout.specs.Verdict.{verdict}
 use Rattle.sections.specs.declared.Cut.{Cut}
 use Rattle.polar.specs.Cuts.{onFile, onCut}

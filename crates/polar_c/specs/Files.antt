@@ -2,7 +2,7 @@
 -- Word 0 is the refusal's place, 0 where there is none; the other words are set only by an answer that is no refusal.
 use Prim.Native.Nat.{ℕ, min}
 use mathlib.Core.Path.{_≡_}
-use mathlib.Core.List.{List, [], _∷_, _++_}
+use mathlib.Core.List.{List, [], _∷_}
 use lib.ListN.{length, set}
 use lib.Seq.{sets}
 use lib.IntN.{ℤ, pos}

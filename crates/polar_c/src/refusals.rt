@@ -2,7 +2,7 @@
 ghost use mathlib.Core.Path.{_≡_};
 ghost use Rattle.runs.specs.Read.{readNumber, readPlace, checkNumber};
 ghost use Rattle.packing.specs.Write.{writeNumber, writePlace};
-ghost use Rattle.sections.specs.Refusal.{numberOf, placeOf};
+ghost use Rattle.sections.specs.Refusal.{placeOf};
 ghost use Rattle.polar.specs.Refusals.{askNumber, askPlace, fillNumber, fillPlace};
 use packing::WriteRefusal;
 use polar::AskRefusal;

@@ -1,7 +1,7 @@
 -- Document 01, "Sections": the rules on the named fields of each section, in the document's order and with its numbers.
-use Prim.Native.Nat.{ℕ, _+_, _*_, _-_, _%_, _^_}
+use Prim.Native.Nat.{ℕ, _+_, _-_, _%_}
 use mathlib.Core.List.{List, [], _∷_, _++_}
-use mathlib.Core.Bool.{Bool, true, false, _&&_, _||_}
+use mathlib.Core.Bool.{Bool, true, _&&_, _||_}
 use lib.Dec.{leb}
 use Rattle.octets.specs.Octets.{be, signBit}
 

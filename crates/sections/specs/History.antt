@@ -1,5 +1,5 @@
 -- What has been seen of a file before a place: the sections passed, the last of them first; and what document 01 asks of them.
-use Prim.Native.Nat.{ℕ, zero, suc, _+_}
+use Prim.Native.Nat.{ℕ, _+_}
 use mathlib.Core.List.{List, [], _∷_, _++_}
 use mathlib.Core.Bool.{cond}
 use lib.Dec.{eqb}

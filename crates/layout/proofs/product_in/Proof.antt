@@ -5,10 +5,6 @@ use mathlib.Core.Path.{_∙_, ap}
 use borrow.Author.Needs.{needs}
 use Rattle.layout.proofs.product_in.Statement.{statement}
 use Rattle.layout.proofs.product_in.Tie as tie
-use Rattle.layout.proofs.product_in.Reads as reads
-use Rattle.layout.proofs.product_in.Lts as lts
-use Rattle.layout.proofs.product_of.Reads as product-of-reads
-use Rattle.rules.proofs.field8.Reads as field8-reads
 
 -- src/lib.rt:141:16
 field8-requires : tie.Need-field8-requires
