@@ -1,5 +1,6 @@
 //! The proved library against plain Rust that does the same work and makes the same checks, in one run: least times in
 //! microseconds and their ratio. All buffers are made and written to before the first time is taken.
+mod dual;
 mod files;
 mod lister;
 mod runs;
@@ -15,6 +16,9 @@ fn main() {
     }
     if asked("files") {
         files::rows();
+    }
+    if asked("dual") {
+        dual::rows();
     }
     if asked("lister") {
         lister::rows();

@@ -1,8 +1,10 @@
 //! The yardstick does what the independent reader does: else its times would say nothing.
+use plain::frame::{Grid, Opened};
 use plain::{Answer, Refusal};
+use reference::frame::Circle;
 use reference::layout::verdict;
 use reference::numbers::Numbers;
-use reference::{calls, cases, lister, runs, shapes, spoil, stretches};
+use reference::{calls, cases, dual, lister, runs, shapes, spoil, stretches};
 
 fn told<T>(answer: Result<T, reference::Refusal>) -> Answer<T> {
     answer.map_err(|r| Refusal(r.number, r.place))
@@ -28,12 +30,17 @@ fn runs_agree() {
     }
 }
 
-#[test]
-fn verdicts_agree() {
-    for case in cases::all() {
-        let found = plain::file::open(&case.file).err();
+fn verdicts(cases: Vec<cases::Case>, open: impl Fn(&[u8]) -> Answer<Opened>) {
+    for case in cases {
+        let found = open(&case.file).err();
         assert_eq!(found, case.verdict.map(|(number, place)| Refusal(number, place as u64)), "{}", case.name);
     }
+}
+
+#[test]
+fn verdicts_agree() {
+    verdicts(cases::all(), plain::file::open);
+    verdicts(dual::cases::all(), plain::dual::open);
 }
 
 #[test]
@@ -67,6 +74,36 @@ fn files_agree() {
             let expected = stretches::stretches(&file, k, threshold, (ray, bin), &mut words_too);
             assert_eq!(portion, told(expected).map(|p| (p.count, p.next)));
             assert_eq!(words, words_too);
+        }
+    }
+}
+
+/// What open and cut say, in the independent reader's words.
+fn opened(Opened { product, time, site, cuts }: Opened) -> dual::calls::Opened {
+    dual::calls::Opened { parameter: product.into(), time: time.map(u64::from), site: site.into(), cuts }
+}
+
+fn circle(Grid { bins, rays, latitude, longitude, dx, dstart }: Grid) -> Circle {
+    Circle { bins, rays, latitude, longitude: longitude.into(), dx: dx.into(), dstart: dstart.into() }
+}
+
+#[test]
+fn dual_files_agree() {
+    let mut n = Numbers::new(3);
+    for round in 0..3000 {
+        let plan = dual::shapes::random_plan(3, 12, 6, &mut n);
+        let mut file = plan.file();
+        match round % 3 {
+            0 => spoil::spoil(&mut file, &mut n),
+            1 => file = spoil::spoil_sections(&plan.sections(), &mut n),
+            _ => {}
+        }
+        assert_eq!(plain::dual::open(&file).map(opened), told(dual::calls::open(&file)));
+        for k in 0..4 {
+            assert_eq!(plain::dual::cut(&file, k).map(|cut| circle(cut.grid)), told(dual::calls::cut(&file, k)));
+            let (ray, bin) = (n.below(7), n.below(13));
+            let found = plain::dual::bin_value(&file, k, ray, bin).map(|value| value.map(f64::to_bits));
+            assert_eq!(found, told(dual::calls::bin_value(&file, k, ray, bin)).map(|value| value.map(f64::to_bits)));
         }
     }
 }
