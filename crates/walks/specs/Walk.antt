@@ -12,6 +12,9 @@ use Rattle.sections.specs.declared.Cut.{Cut}
 use Rattle.sections.specs.declared.State.{State}
 use Rattle.sections.specs.declared.Judged.{Judged}
 use Rattle.sections.specs.declared.Judged.the-variants.{Fine, Wrong}
+use Rattle.sections.specs.declared.Walked.{Walked}
+use Rattle.sections.specs.declared.Walked.the-variants.{Whole, Rejected}
+use Rattle.walks.specs.declared.Ended.{Ended}
 use Rattle.walks.specs.declared.Step.{Step}
 use Rattle.walks.specs.declared.Step.the-variants.{Next, Done, Refused}
 
@@ -49,3 +52,11 @@ stepFrom s end st (Wrong r) = Refused r
 -- one step of the walk, by a format's own checks
 unfoldable pub stepOf : Own → List ℕ → ℕ → State → Step
 stepOf own s end st = stepFrom s end st (firstFault (checksAt own s end (contextIn st) (st .at)))
+
+-- what the walk answers where it ended
+abbrev pub answerBy : Judged → ℕ → Cut → Walked
+answerBy Fine n c = Whole (record { cuts = n; cut = c })
+answerBy (Wrong r) n c = Rejected r
+
+unfoldable pub endedAs : Ended → Walked
+endedAs e = answerBy (e .judged) (e .cuts) (e .cut)

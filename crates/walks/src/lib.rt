@@ -19,7 +19,7 @@ ghost use Rattle.sections.specs.Places.{contextIn};
 ghost use Rattle.layout.specs.Verdict.{verdict};
 ghost use Rattle.duallayout.specs.Verdict.{verdict as dualVerdict};
 ghost use Rattle.walks.specs.Formats.{ownOf};
-ghost use Rattle.walks.specs.Walk.{past, cutEnded, chosenAfter, Sound, stepOf};
+ghost use Rattle.walks.specs.Walk.{past, cutEnded, chosenAfter, Sound, stepOf, endedAs};
 
 // What a file is read as.
 enum Format {
@@ -31,6 +31,14 @@ enum Step {
     Next(State),
     Done,
     Refused(FileRefusal),
+}
+
+// Where the walk ended: what the last checks came to, the cuts ended and the chosen one. One shape for both ways out, so that the compiler has nothing to
+// keep for the way out while it scans data.
+struct Ended {
+    judged: Judged,
+    cuts: usize,
+    cut: Cut,
 }
 
 // Whether n octets from `at` on end at `end` or before.
@@ -229,9 +237,9 @@ fn chosen_after(want: usize, st: State, n: u8, chosen: Cut) -> Cut
 }
 
 // Section after section up to `end`, from section 1 on.
-fn walk_to(format: Format, s: &[u8], end: usize, want: usize) -> Walked
+fn walk_to(format: Format, s: &[u8], end: usize, want: usize) -> Ended
     requires { ⌜ (16 ≤ end) × (end + 4 ≤ length (now s)) ⌝ }
-    ensures { λ r. ⌜ r ≡ answerFor want (sections (ownOf format) (length (now (s .entry))) (now (s .entry)) end [] 16) ⌝ }
+    ensures { λ r. ⌜ endedAs r ≡ answerFor want (sections (ownOf format) (length (now (s .entry))) (now (s .entry)) end [] 16) ⌝ }
 {
     let mut st = State {
         at: 16,
@@ -251,19 +259,38 @@ fn walk_to(format: Format, s: &[u8], end: usize, want: usize) -> Walked
     loop {
         match one_step(format, s, end, st) {
             Step::Done => {
-                return Walked::Whole(Found {
+                return Ended {
+                    judged: Judged::Fine,
                     cuts: st.cuts,
                     cut: chosen,
-                });
+                };
             }
             Step::Refused(refusal) => {
-                return Walked::Rejected(refusal);
+                return Ended {
+                    judged: Judged::Wrong(refusal),
+                    cuts: st.cuts,
+                    cut: chosen,
+                };
             }
             Step::Next(next) => {
                 chosen = chosen_after(want, st, next.previous, chosen);
                 st = next;
             }
         }
+    }
+}
+
+fn ended_as(ended: Ended) -> Walked
+    ensures { λ r. ⌜ r ≡ endedAs ended ⌝ }
+{
+    let cut = ended.cut;
+    let judged = ended.judged;
+    match judged {
+        Judged::Fine => Walked::Whole(Found {
+            cuts: ended.cuts,
+            cut,
+        }),
+        Judged::Wrong(refusal) => Walked::Rejected(refusal),
     }
 }
 
@@ -278,7 +305,7 @@ fn walk_as(format: Format, s: &[u8], want: usize) -> Walked
         return Walked::Rejected(FileRefusal::FileSize);
     }
     if rules::fields0(s) {
-        return walk_to(format, s, n - 4, want);
+        return ended_as(walk_to(format, s, n - 4, want));
     }
     Walked::Rejected(FileRefusal::Section0)
 }

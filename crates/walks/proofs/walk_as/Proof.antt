@@ -26,10 +26,13 @@ sub-walk-to c = search needs
 walk-to-requires : tie.Need-walk-to-requires
 walk-to-requires c κs = search needs
 
+ended-as-requires : tie.Need-ended-as-requires
+ended-as-requires c κs = search needs
+
 returns-3 : tie.Need-returns-3
 unfolding verdictBy sized
-returns-3 c = let n = length (now (c .before .before .before .before .before .before .args .s)) in
-    rw (le-leb 20 n (c .before .before .before .before .if1 .left), le-leb n 8388608 (c .before .before .before .if2 .left), sym (c .before .before .fields0 .ensures) ∙ c .before .if3 .taken) (c .walk-to .ensures)
+returns-3 c = let n = length (now (c .before .before .before .before .before .before .before .args .s)) in
+    rw (le-leb 20 n (c .before .before .before .before .before .if1 .left), le-leb n 8388608 (c .before .before .before .before .if2 .left), sym (c .before .before .before .fields0 .ensures) ∙ c .before .before .if3 .taken) (c .ended-as .ensures ∙ c .before .walk-to .ensures)
 
 returns-4 : tie.Need-returns-4
 unfolding verdictBy sized answerFor
@@ -39,4 +42,4 @@ returns-4 c = let n = length (now (c .before .before .before .before .before .ar
 pub walk-as-spec : {M : Type 1} → statement M
 walk-as-spec =
     tie.close
-    (tie.spec returns returns-2 fields0-requires sub-walk-to walk-to-requires returns-3 returns-4)
+    (tie.spec returns returns-2 fields0-requires sub-walk-to walk-to-requires ended-as-requires returns-3 returns-4)

@@ -2,6 +2,7 @@
 use borrow.Author.Needs.{needs}
 use Rattle.walks.proofs.Along.{Along, along-start, along-next, along-done, along-refused, further}
 use Rattle.walks.specs.Formats.{ownOf}
+use Rattle.walks.specs.Walk.{endedAs}
 use Rattle.walks.proofs.Few.{few-of}
 use native.Mathlib.Omega.{arith}
 use mathlib.Core.Path.{sym, _∙_}
@@ -25,12 +26,14 @@ enum-told : tie.Need-enum-told Inv-loop μ-loop
 enum-told c = search needs
 
 returns : tie.Need-returns Inv-loop μ-loop
+unfolding endedAs
 returns c = let i = c .before .before .before .loop in along-done _ (few-of (c .before .before .before .before .before .args .format)) _ _ _ _ _ (i .inv) (sym (c .before .before .one-step .ensures) ∙ c .enum-told .given .1)
 
 enum-known-refusal : tie.Need-enum-known-refusal Inv-loop μ-loop
 enum-known-refusal c = search needs
 
 returns-2 : tie.Need-returns-2 Inv-loop μ-loop
+unfolding endedAs
 returns-2 c = let i = c .before .before .before .before .loop in along-refused _ (few-of (c .before .before .before .before .before .before .args .format)) _ _ _ _ _ (i .inv) _ (sym (c .before .before .before .one-step .ensures) ∙ c .before .refusal .given .1)
 
 enum-known-next : tie.Need-enum-known-next Inv-loop μ-loop
