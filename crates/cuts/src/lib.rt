@@ -25,12 +25,6 @@ pub fn greatest_in(file: &[u8], c: Cut) -> u8
     rules::field16(file, c.section5, 13) as u8
 }
 
-fn place(x: u32) -> usize
-    ensures { λ r. ⌜ r ≡ x ⌝ }
-{
-    x as usize
-}
-
 // The data of a cut.
 pub fn data_in(file: &[u8], c: Cut) -> &[u8]
     requires { ⌜ GoodCut (now file) c ⌝ }
@@ -107,8 +101,8 @@ pub fn next_cut(file: &[u8], c: Cut) -> Cut
 {
     let at = sections::end_at(file, c.section7);
     let own = rules::field8(file, at, 5) == 3;
-    let section3 = pick(own, at, c.section3);
-    let section4 = pick(own, sections::end_at(file, at), at);
+    let section3 = sections::pick(own, at, c.section3);
+    let section4 = sections::pick(own, sections::end_at(file, at), at);
     let section5 = sections::end_at(file, section4);
     let section7 = sections::end_at(file, sections::end_at(file, section5));
     Cut {
@@ -117,10 +111,4 @@ pub fn next_cut(file: &[u8], c: Cut) -> Cut
         section5,
         section7,
     }
-}
-
-fn pick(b: bool, x: usize, y: usize) -> usize
-    ensures { λ r. ⌜ r ≡ cond b x y ⌝ }
-{
-    if b { x } else { y }
 }

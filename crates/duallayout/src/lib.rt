@@ -85,7 +85,7 @@ fn with_lists(s: &[u8], section3: usize, at: usize, n: u8, k: u8, l: u8) -> u64
     ensures { λ r. ⌜ r ≡ withLists n k l (now (s .entry)) section3 at ⌝ }
 {
     let flags = wide8(rules::field8(s, at, k)) + wide8(rules::field8(s, at, l));
-    let rays = sections::wide(rules::field32(s, section3, 19));
+    let rays = rules::wide(rules::field32(s, section3, 19));
     wide8(n) + 2 * flags * rays
 }
 
@@ -102,11 +102,11 @@ fn judge3(s: &[u8], st: State) -> Judged
     ensures { λ r. ⌜ r ≡ firstFault (checks3 (now (s .entry)) (st .at)) ⌝ }
 {
     let at = st.at;
-    let len = sections::wide(rules::field32(s, at, 1));
+    let len = rules::wide(rules::field32(s, at, 1));
     let due = with_lists(s, at, at, 58, 53, 54);
     let fields = fields3(s, at);
     let scan = scan_fields(s, at);
-    let said = sections::wide(rules::field32(s, at, 7));
+    let said = rules::wide(rules::field32(s, at, 7));
     let points = rules::points_at(s, at);
     let last = sections::unless(said == points, FileRefusal::Points(at), sections::fine());
     let past5 = sections::unless(scan, FileRefusal::Unread(at), last);
@@ -118,7 +118,7 @@ fn judge4(s: &[u8], st: State) -> Judged
     ensures { λ r. ⌜ r ≡ firstFault (checks4 (now (s .entry)) (contextIn st) (st .at)) ⌝ }
 {
     let at = st.at;
-    let len = sections::wide(rules::field32(s, at, 1));
+    let len = rules::wide(rules::field32(s, at, 1));
     let due = with_lists(s, st.section3, at, 61, 56, 57);
     let first = sections::first_in(st);
     let parameter = rules::field8(s, first, 11);
@@ -135,7 +135,7 @@ fn judge5(s: &[u8], st: State) -> Judged
     let len = rules::field32(s, at, 1);
     let named = fields5(s, at);
     let packing = packing_ok(s, at);
-    let said = sections::wide(rules::field32(s, at, 6));
+    let said = rules::wide(rules::field32(s, at, 6));
     let points = rules::points_at(s, st.section3);
     let last = sections::unless(said == points, FileRefusal::Points(at), sections::fine());
     let past5 = sections::unless(packing, FileRefusal::Unread(at), last);
@@ -148,7 +148,7 @@ pub fn judge7(s: &[u8], st: State) -> Judged
     ensures { λ r. ⌜ r ≡ firstFault (checks7 (now (s .entry)) (contextIn st) (st .at)) ⌝ }
 {
     let at = st.at;
-    let len = sections::wide(rules::field32(s, at, 1));
+    let len = rules::wide(rules::field32(s, at, 1));
     let due = length7_at(s, st.section3, st.section5);
     sections::unless(len == due, FileRefusal::Length(at), sections::fine())
 }

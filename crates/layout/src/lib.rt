@@ -74,7 +74,7 @@ fn judge3(s: &[u8], st: State) -> Judged
 {
     let at = st.at;
     let len = rules::field32(s, at, 1);
-    let said = sections::wide(rules::field32(s, at, 7));
+    let said = rules::wide(rules::field32(s, at, 7));
     let due = rules::points_at(s, at);
     sections::unless(
         len == 41,
@@ -91,8 +91,8 @@ fn judge4(s: &[u8], st: State) -> Judged
     ensures { λ r. ⌜ r ≡ firstFault (checks4 (now (s .entry)) (contextIn st) (st .at)) ⌝ }
 {
     let at = st.at;
-    let len = sections::wide(rules::field32(s, at, 1));
-    let due = 60 + 4 * sections::wide(rules::field32(s, st.section3, 19));
+    let len = rules::wide(rules::field32(s, at, 1));
+    let due = 60 + 4 * rules::wide(rules::field32(s, st.section3, 19));
     let first = sections::first_in(st);
     let parameter = rules::field8(s, first, 11);
     let site = rules::field16(s, first, 29);
@@ -114,7 +114,7 @@ fn judge5_fields(s: &[u8], st: State) -> Judged
 {
     let at = st.at;
     let product = product_of(rules::field8(s, st.section4, 11));
-    let said = sections::wide(rules::field32(s, at, 6));
+    let said = rules::wide(rules::field32(s, at, 6));
     let points = rules::points_at(s, st.section3);
     let m = values::level_count(product) as u16;
     let table = table_at(s, at, product);

@@ -191,7 +191,7 @@ pub fn points_at(s: &[u8], at: usize) -> u64
     wide(field32(s, at, 15)) * wide(field32(s, at, 19))
 }
 
-fn wide(x: u32) -> u64
+pub fn wide(x: u32) -> u64
     ensures { λ r. ⌜ r ≡ x ⌝ }
 {
     x as u64

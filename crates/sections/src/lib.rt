@@ -130,12 +130,6 @@ pub fn place_of(refusal: FileRefusal) -> usize
     }
 }
 
-pub fn wide(x: u32) -> u64
-    ensures { λ r. ⌜ r ≡ x ⌝ }
-{
-    x as u64
-}
-
 pub fn place(x: u32) -> usize
     ensures { λ r. ⌜ r ≡ x ⌝ }
 {
