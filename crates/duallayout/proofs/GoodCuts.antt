@@ -6,25 +6,30 @@ use mathlib.Core.Bool.{true}
 use mathlib.Core.Logic.{_⊎_, inl, inr}
 use native.Mathlib.Omega.{arith}
 use native.Mathlib.Nat.{mul-comm, le-antisymm}
+use borrow.Author.Tests.{eqb-true}
 use lib.ListN.{length, getD}
 use Rattle.rules.specs.Rules.{is, meets}
 use Rattle.rules.specs.Fields.{binsAt, raysAt, pointsAt}
+use Rattle.rules.proofs.Chains.{and-true-both}
 use Rattle.rules.proofs.Bounds.{nth-rule, within-is, bins-bound, rays-bound}
-use Rattle.scaled.specs.Scaled.{Packing}
+use Rattle.scaled.specs.Scaled.{finiteSingle, Packing}
 use Rattle.sections.specs.Parts.{binsIn, raysIn}
 use Rattle.sections.specs.Verdict.{endOf, noCut, answerFor}
-use Rattle.sections.specs.Accepted.{Body}
+use Rattle.sections.specs.Accepted.{Body, sectionAt}
+use Rattle.sections.specs.Checks.{Context}
+use Rattle.sections.specs.Refused.{AllHold}
 use Rattle.sections.specs.declared.Cut.{Cut}
 use Rattle.sections.specs.declared.Found.{Found}
 use Rattle.sections.specs.declared.Walked.the-variants as W
 use Rattle.sections.proofs.Order.{either-of}
-use Rattle.sections.proofs.Each.{each-cut, each-found}
+use Rattle.sections.proofs.Each.{contextFor, checked, each-cut, each-found}
+use Rattle.sections.proofs.Held.{Held}
 use Rattle.duallayout.specs.Rules.{flagRules, rules3, rules5, widthRule}
 use Rattle.duallayout.specs.Fields.{referenceAt, binaryAt, decimalAt, widthAt, length7}
 use Rattle.duallayout.specs.Checks.{ownChecks}
 use Rattle.duallayout.specs.Parts.{referenceIn, binaryIn, decimalIn, widthIn}
 use Rattle.duallayout.specs.Verdict.{verdict}
-use Rattle.duallayout.specs.Accepted.{Section3, Section5, kinds, Accepted}
+use Rattle.duallayout.specs.Accepted.{Section3, kinds, Accepted}
 use Rattle.duallayout.specs.Good.{GoodCut}
 use Rattle.duallayout.proofs.Own.{says}
 
@@ -38,14 +43,15 @@ width-is : (s : List ℕ) (at : ℕ) → meets s at widthRule ≡ true → (widt
 unfolding meets
 width-is s at h = either-of (meets s at (is 20 1 8)) (meets s at (is 20 1 16)) h (λ e. inl (eight s at 8 e)) (λ e. inr (eight s at 16 e))
 
-packing-of : (s : List ℕ) (s3 s4 at : ℕ) → Section5 s s3 s4 at → Packing (referenceAt s at) (binaryAt s at) (decimalAt s at) (widthAt s at)
-unfolding rules5 binaryAt decimalAt
-packing-of s s3 s4 at k =
+packing-of : (s : List ℕ) (x : Context) (at : ℕ) → AllHold (ownChecks s x at 5) → Packing (referenceAt s at) (binaryAt s at) (decimalAt s at) (widthAt s at)
+unfolding rules5 binaryAt decimalAt ownChecks
+packing-of s x at a =
+    let p = and-true-both (finiteSingle (referenceAt s at)) (meets s at widthRule) (a .1 .1 .0) in
     record {
-      reference = k .number;
-      binary = within-is s at 16 2 0 2 (nth-rule s at rules5 (is 0 0 0) (k .rules) 1 (omega arith)) .1;
-      decimal = within-is s at 18 2 0 4 (nth-rule s at rules5 (is 0 0 0) (k .rules) 2 (omega arith)) .1;
-      cells = width-is s at (k .width);
+      reference = p .0;
+      binary = within-is s at 16 2 0 2 (nth-rule s at rules5 (is 0 0 0) (a .1 .0) 1 (omega arith)) .1;
+      decimal = within-is s at 18 2 0 4 (nth-rule s at rules5 (is 0 0 0) (a .1 .0) 2 (omega arith)) .1;
+      cells = width-is s at (p .1);
     }
 
 -- ── section 7 ──
@@ -54,25 +60,27 @@ packing-of s s3 s4 at k =
 whole : (n w : ℕ) → (w ≡ 8) ⊎ (w ≡ 16) → n * w / 8 ≡ n * (w / 8)
 whole n w p = elim p [ inl e ↦ rw e (omega arith) | inr e ↦ rw e (omega arith) ]
 
-length-of : (s : List ℕ) (s3 s5 : ℕ) → (widthAt s s5 ≡ 8) ⊎ (widthAt s s5 ≡ 16) → length7 s s3 s5 ≡ 5 + raysAt s s3 * binsAt s s3 * (widthAt s s5 / 8)
+length-of : (s : List ℕ) (s3 s5 : ℕ) → (widthAt s s5 ≡ 8) ⊎ (widthAt s s5 ≡ 16) → length7 (pointsAt s s3) (widthAt s s5) ≡ 5 + raysAt s s3 * binsAt s s3 * (widthAt s s5 / 8)
 unfolding length7 pointsAt
 length-of s s3 s5 w =
     ap (λ (n : ℕ). 5 + n)
     (whole (binsAt s s3 * raysAt s s3) (widthAt s s5) w ∙ ap (λ (n : ℕ). n * (widthAt s s5 / 8)) (mul-comm (binsAt s s3) (raysAt s s3)))
 
--- one cut, of the body that starts at `at` under the section 3 at `s3`
-good-body : (s : List ℕ) (first s3 at : ℕ) (c : Cut) (next : ℕ) → Section3 s s3 → Body kinds s (endOf s) first s3 at c next → GoodCut s c
-unfolding rules3 referenceIn binaryIn decimalIn widthIn binsIn raysIn
-good-body s first s3 at c next three b =
+-- one cut, of the body that starts at `at` under the section 3 at `s3`: by the checks of its sections, which all hold
+good-body : (s : List ℕ) (first s3 at : ℕ) (c : Cut) (next : ℕ) → Held s s3 (sectionAt s s3) → Section3 (sectionAt s s3)
+    → Body kinds s (endOf s) first s3 at c next → GoodCut s c
+unfolding rules3 referenceIn binaryIn decimalIn widthIn binsIn raysIn ownChecks
+good-body s first s3 at c next h three b =
+    let k = checked ownChecks kinds says s first s3 at c next h three b in
     let up-to = b .seven .up-to in
     let inside = b .seven .inside in
-    let packing = packing-of s s3 at (b .s5) (b .five-is) in
+    let packing = packing-of s (contextFor first s3 at (b .s5)) (b .s5) (k .five) in
     subst (GoodCut s) (sym (b .is))
     (record {
-      bins-few = bins-bound s s3 50121 flagRules (three .rules) .1;
-      rays-few = rays-bound s s3 50121 flagRules (three .rules) .1;
+      bins-few = bins-bound s s3 50121 flagRules (k .three .1 .0) .1;
+      rays-few = rays-bound s s3 50121 flagRules (k .three .1 .0) .1;
       packing = packing;
-      cells = b .seven-is .long ∙ length-of s s3 (b .s5) (packing .cells);
+      cells = eqb-true _ _ (k .seven .0) ∙ length-of s s3 (b .s5) (packing .cells);
       inside = omega arith;
     })
 

@@ -1,3 +1,4 @@
+pub mod Same
 pub mod Products
 pub mod Own
 pub mod Exact

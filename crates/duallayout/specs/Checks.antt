@@ -4,12 +4,12 @@ use mathlib.Core.List.{List, [], _∷_}
 use mathlib.Core.Bool.{cond, _&&_}
 use lib.Dec.{leb, eqb}
 use Rattle.rules.specs.Rules.{field, meets, meetsAll}
-use Rattle.rules.specs.Fields.{lengthAt, pointsAt, parameterAt}
+use Rattle.rules.specs.Fields.{lengthAt, raysAt, pointsAt, parameterAt}
 use Rattle.scaled.specs.Scaled.{finiteSingle}
 use Rattle.sections.specs.Checks.{Context, Check, check, Own}
 use Rattle.sections.specs.declared.FileRefusal.the-variants.{Length, Field, Points, Unread}
 use Rattle.duallayout.specs.Rules.{rules3, scanRules, rules4, rules5, widthRule}
-use Rattle.duallayout.specs.Fields.{length3, least4, siteAt, referenceAt, length7}
+use Rattle.duallayout.specs.Fields.{length3, least4, siteAt, referenceAt, widthAt, length7}
 
 abbrev pub checks3 : List ℕ → ℕ → List Check
 checks3 s at =
@@ -21,7 +21,7 @@ checks3 s at =
 
 abbrev pub checks4 : List ℕ → Context → ℕ → List Check
 checks4 s x at =
-    check (Length at) (leb (least4 s (x .section3) at) (lengthAt s at))
+    check (Length at) (leb (least4 s at (raysAt s (x .section3))) (lengthAt s at))
     ∷ check (Field at) (meetsAll s at (rules4 (parameterAt s (x .first)) (siteAt s (x .first))))
     ∷ []
 
@@ -34,7 +34,7 @@ checks5 s x at =
     ∷ []
 
 abbrev pub checks7 : List ℕ → Context → ℕ → List Check
-checks7 s x at = check (Length at) (eqb (lengthAt s at) (length7 s (x .section3) (x .section5))) ∷ []
+checks7 s x at = check (Length at) (eqb (lengthAt s at) (length7 (pointsAt s (x .section3)) (widthAt s (x .section5)))) ∷ []
 
 unfoldable pub ownChecks : Own
 ownChecks s x at n =

@@ -11,12 +11,12 @@ ghost use mathlib.Core.Path.{_≡_};
 ghost use mathlib.Core.Bool.{_&&_};
 ghost use Prim.Native.Nat.{_≤_};
 ghost use Rattle.rules.specs.Rules.{meets, meetsAll};
-ghost use Rattle.rules.specs.Fields.{pointsAt};
+ghost use Rattle.rules.specs.Fields.{raysAt, pointsAt};
 ghost use Rattle.scaled.specs.Scaled.{finiteSingle};
 ghost use Rattle.sections.specs.Verdict.{firstFault};
 ghost use Rattle.sections.specs.Places.{contextIn};
 ghost use Rattle.duallayout.specs.Rules.{rules3, scanRules, rules4, rules5, widthRule};
-ghost use Rattle.duallayout.specs.Fields.{withLists, referenceAt, length7};
+ghost use Rattle.duallayout.specs.Fields.{withLists, referenceAt, widthAt, length7};
 ghost use Rattle.duallayout.specs.Checks.{checks3, checks4, checks5, checks7, ownChecks};
 
 // The field rules of each section, as one chain of tests without branches.
@@ -82,7 +82,7 @@ fn wide8(x: u8) -> u64
 
 // A section of n octets with two lists, each there where its flag, in octet k or l, is 1.
 fn with_lists(s: &[u8], section3: usize, at: usize, n: u8, k: u8, l: u8) -> u64
-    ensures { λ r. ⌜ r ≡ withLists n k l (now (s .entry)) section3 at ⌝ }
+    ensures { λ r. ⌜ r ≡ withLists n k l (now (s .entry)) at (raysAt (now (s .entry)) section3) ⌝ }
 {
     let flags = wide8(rules::field8(s, at, k)) + wide8(rules::field8(s, at, l));
     let rays = rules::wide(rules::field32(s, section3, 19));
@@ -91,7 +91,7 @@ fn with_lists(s: &[u8], section3: usize, at: usize, n: u8, k: u8, l: u8) -> u64
 
 fn length7_at(s: &[u8], section3: usize, section5: usize) -> u64
     requires { ⌜ pointsAt (now s) section3 ≤ 2097152 ⌝ }
-    ensures { λ r. ⌜ r ≡ length7 (now (s .entry)) section3 section5 ⌝ }
+    ensures { λ r. ⌜ r ≡ length7 (pointsAt (now (s .entry)) section3) (widthAt (now (s .entry)) section5) ⌝ }
 {
     5 + rules::points_at(s, section3) * wide8(rules::field8(s, section5, 20)) / 8
 }

@@ -5,20 +5,21 @@ use mathlib.Core.List.{List}
 use mathlib.Core.Bool.{true}
 use native.Mathlib.Omega.{arith}
 use native.Mathlib.Nat.{mul-comm}
+use borrow.Author.Tests.{leb-true}
 use lib.ListN.{length, getD}
 use Rattle.rules.specs.Rules.{scanRules, rules3}
 use Rattle.rules.specs.Fields.{binsAt, raysAt, pointsAt}
 use Rattle.rules.proofs.Bounds.{bins-bound, rays-bound, greatest-bound}
 use Rattle.runs.specs.Run.{gives}
-use Rattle.runs.proofs.Meaning.{exactly-gives}
 use Rattle.values.specs.Published.{levelCount}
 use Rattle.sections.specs.Parts.{binsIn, raysIn}
 use Rattle.sections.specs.Verdict.{endOf, noCut, answerFor}
-use Rattle.sections.specs.Accepted.{Body}
+use Rattle.sections.specs.Accepted.{Body, sectionAt}
 use Rattle.sections.specs.declared.Cut.{Cut}
 use Rattle.sections.specs.declared.Found.{Found}
 use Rattle.sections.specs.declared.Walked.the-variants as W
-use Rattle.sections.proofs.Each.{each-cut, each-found}
+use Rattle.sections.proofs.Each.{checked, each-cut, each-found}
+use Rattle.sections.proofs.Held.{Held}
 use Rattle.layout.specs.Checks.{ownChecks}
 use Rattle.layout.specs.Parts.{dataAt, productIn, greatestIn}
 use Rattle.layout.specs.Verdict.{verdict}
@@ -26,16 +27,17 @@ use Rattle.layout.specs.Accepted.{Section3, kinds, Accepted}
 use Rattle.layout.specs.Good.{GoodCut}
 use Rattle.layout.proofs.Own.{says}
 
--- one cut, of the body that starts at `at` under the section 3 at `s3`
-good-body : (s : List ℕ) (first s3 at : ℕ) (c : Cut) (next : ℕ) → Section3 s s3 → Body kinds s (endOf s) first s3 at c next → GoodCut s c
-unfolding rules3 productIn binsIn raysIn greatestIn pointsAt
-good-body s first s3 at c next three b =
-    let bins = bins-bound s s3 50120 scanRules (three .rules) in
-    let rays = rays-bound s s3 50120 scanRules (three .rules) in
-    let seven = b .seven-is in
+-- one cut, of the body that starts at `at` under the section 3 at `s3`: by the checks of its sections, which all hold
+good-body : (s : List ℕ) (first s3 at : ℕ) (c : Cut) (next : ℕ) → Held s s3 (sectionAt s s3) → Section3 (sectionAt s s3)
+    → Body kinds s (endOf s) first s3 at c next → GoodCut s c
+unfolding rules3 productIn binsIn raysIn greatestIn pointsAt ownChecks
+good-body s first s3 at c next h three b =
+    let k = checked ownChecks kinds says s first s3 at c next h three b in
+    let bins = bins-bound s s3 50120 scanRules (k .three .1 .0) in
+    let rays = rays-bound s s3 50120 scanRules (k .three .1 .0) in
     let up-to = b .seven .up-to in
     let inside = b .seven .inside in
-    let v = greatest-bound s (b .s5) (levelCount (productIn s (record { section3 = s3; section4 = at; section5 = b .s5; section7 = b .s7 }))) (b .five-is .rules) in
+    let v = greatest-bound s (b .s5) (levelCount (productIn s (record { section3 = s3; section4 = at; section5 = b .s5; section7 = b .s7 }))) (k .five .1 .0) in
     let same : binsAt s s3 * raysAt s s3 ≡ raysAt s s3 * binsAt s s3 = mul-comm (binsAt s s3) (raysAt s s3) in
     subst (GoodCut s) (sym (b .is))
     (record {
@@ -44,11 +46,11 @@ good-body s first s3 at c next three b =
       rays-some = rays .0;
       rays-few = rays .1;
       greatest-few = v;
-      data-some = seven .long;
+      data-some = leb-true _ _ (k .seven .0);
       data-inside = omega arith;
       exact =
           subst (λ (n : ℕ). gives (greatestIn s (record { section3 = s3; section4 = at; section5 = b .s5; section7 = b .s7 })) n (dataAt s (b .s7)) ≡ true) same
-          (exactly-gives _ _ (dataAt s (b .s7)) (seven .bins));
+          (k .seven .1 .1 .0);
     })
 
 pub good-accepted : (s : List ℕ) (cs : List Cut) → Accepted s cs → (i : ℕ) → i < length cs → GoodCut s (getD cs i noCut)

@@ -1,3 +1,4 @@
+pub mod Same
 pub mod Own
 pub mod Exact
 pub mod GoodCuts

@@ -1,37 +1,39 @@
--- Document 01, "Sections", as it stands there: what a run-length packed file is, with no word on the order of checks.
+-- Document 01, "Sections", as it stands there: what a run-length packed file is, with no word on the order of checks. Of a section its octets count, and
+-- not the place where they stand.
 use Prim.Native.Nat.{ℕ, _+_, _*_, _≤_}
 use mathlib.Core.Path.{_≡_}
 use mathlib.Core.List.{List}
+use lib.ListN.{length, drop}
 use Rattle.rules.specs.Rules.{field, rules3, rules4, rules5}
-use Rattle.rules.specs.Fields.{lengthAt, raysAt, pointsAt, parameterAt, siteAt, greatestAt, countAt}
+use Rattle.rules.specs.Fields.{raysAt, pointsAt, parameterAt, siteAt, greatestAt, countAt}
 use Rattle.runs.specs.Runs.{Exactly}
 use Rattle.values.specs.Published.{levelCount}
 use Rattle.values.specs.Table.{tableOctets}
 use Rattle.sections.specs.Accepted.{Meets, Kinds, AcceptedBy}
 use Rattle.sections.specs.declared.Cut.{Cut}
-use Rattle.layout.specs.Parts.{productOf, tableAt, dataAt}
+use Rattle.layout.specs.Parts.{productOf}
 
-pub record Section3 (s : List ℕ) (at : ℕ) : Type 0 where
-  pub long : lengthAt s at ≡ 41
-  pub rules : Meets s at rules3
-  pub points : field s at 7 4 ≡ pointsAt s at
+pub record Section3 (s3 : List ℕ) : Type 0 where
+  pub long : length s3 ≡ 41
+  pub rules : Meets s3 0 rules3
+  pub points : field s3 0 7 4 ≡ pointsAt s3 0
 
--- under the section 3 at `s3`, in a file whose first section 4 stands at `first`
-pub record Section4 (s : List ℕ) (first s3 at : ℕ) : Type 0 where
-  pub long : lengthAt s at ≡ 60 + 4 * raysAt s s3
-  pub rules : Meets s at (rules4 (parameterAt s first) (siteAt s first))
+-- under the section 3 `s3`, in a file whose first section 4 is `first`
+pub record Section4 (first s3 s4 : List ℕ) : Type 0 where
+  pub long : length s4 ≡ 60 + 4 * raysAt s3 0
+  pub rules : Meets s4 0 (rules4 (parameterAt first 0) (siteAt first 0))
 
--- after the section 4 at `s4`
-pub record Section5 (s : List ℕ) (s3 s4 at : ℕ) : Type 0 where
-  pub long : lengthAt s at ≡ 17 + 2 * countAt s at
-  pub rules : Meets s at (rules5 (levelCount (productOf (parameterAt s s4))))
-  pub points : field s at 6 4 ≡ pointsAt s s3
-  pub table : tableAt s at ≡ tableOctets (productOf (parameterAt s s4))
+-- level n's value at 16+2n to 17+2n, so the values are its octets from 18 on
+pub record Section5 (s3 s4 s5 : List ℕ) : Type 0 where
+  pub long : length s5 ≡ 17 + 2 * countAt s5 0
+  pub rules : Meets s5 0 (rules5 (levelCount (productOf (parameterAt s4 0))))
+  pub points : field s5 0 6 4 ≡ pointsAt s3 0
+  pub table : drop 17 s5 ≡ tableOctets (productOf (parameterAt s4 0))
 
--- its data decodes, by template 7.200 under the V of the section 5 at `s5`, to exactly Nb x Nr levels
-pub record Section7 (s : List ℕ) (s3 s5 at : ℕ) : Type 0 where
-  pub long : 6 ≤ lengthAt s at
-  pub bins : Exactly (greatestAt s s5) (pointsAt s s3) (dataAt s at)
+-- its data, from octet 6 on, decodes, by template 7.200 under the V of section 5, to exactly Nb x Nr levels
+pub record Section7 (s3 s5 s7 : List ℕ) : Type 0 where
+  pub long : 6 ≤ length s7
+  pub bins : Exactly (greatestAt s5 0) (pointsAt s3 0) (drop 5 s7)
 
 abbrev pub kinds : Kinds
 kinds = record { Three = Section3; Four = Section4; Five = Section5; Seven = Section7 }

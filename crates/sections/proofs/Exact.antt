@@ -1,6 +1,6 @@
 -- THE THEOREM, of every format whose checks say what it says of its sections: its verdict accepts and refuses exactly the right files (`Exact`), so that
 -- a reader who believes `AcceptedBy`, `RefusedBy` and the rule lists needs to believe nothing else of the layout.
-use Prim.Native.Nat.{ℕ, _-_}
+use Prim.Native.Nat.{ℕ}
 use mathlib.Core.Path.{_≡_, refl, sym, _∙_, ap, subst}
 use mathlib.Core.List.{List, []}
 use mathlib.Core.Bool.{Bool, true, false, false≢true}
@@ -106,7 +106,7 @@ module _ (o : Own) (kinds : Kinds) (says : Says o kinds) where
         small = z .small;
         large = z .large;
         zero = q;
-        past = subst (PastZero kinds s (endOf s)) (sym (t .cuts)) (past-off o kinds says s (endOf s) (t .all) (count-cuts (t .all)) (t .rest));
+        past = subst (PastZero kinds s (endOf s)) (sym (t .cuts)) (past-off o kinds says s (endOf s) (omega arith) (t .all) (count-cuts (t .all)) (t .rest));
       }
 
   pub accepted-only : (s : List ℕ) (cs : List Cut) → verdictBy o s ≡ accepted cs → AcceptedBy kinds s cs
@@ -116,7 +116,7 @@ module _ (o : Own) (kinds : Kinds) (says : Says o kinds) where
   unfolding cutsOf
   accepted-all s cs a =
       let small = a .small in
-      let k = past-on o kinds says s (endOf s) cs (a .past) in
+      let k = past-on o kinds says s (endOf s) (omega arith) cs (a .past) in
       verdict-sections o s (record { small = a .small; large = a .large }) (a .zero)
       ∙ sections-accept o s (endOf s) [] 16 (k .all) (length s) (k .rest) (omega arith) (omega arith) (omega arith)
       ∙ ap accepted (k .all-are)

@@ -1,6 +1,6 @@
 -- The sections from section 1 on to the end all pass (`Rest`) exactly where they are as `Accepted` has them. Forward: sections are taken off the
 -- front one at a time, four make a cut's body, and cuts are counted by how far they reach. Back: they are put on again from the end.
-use Prim.Native.Nat.{ℕ, zero, suc, _+_, _-_, _≤_, _<_}
+use Prim.Native.Nat.{ℕ, zero, suc, _+_, _≤_, _<_}
 use mathlib.Core.Path.{_≡_, refl, sym, _∙_, ap, subst}
 use mathlib.Core.List.{List, [], _∷_, _++_, append-assoc, append-nil}
 use mathlib.Core.Bool.{Bool, true, false, false≢true, cond, not, _&&_, _||_}
@@ -13,13 +13,14 @@ use Rattle.rules.specs.Fields.{lengthAt, numberAt}
 use Rattle.rules.proofs.Chains.{and-true-both}
 use Rattle.sections.specs.Checks.{Own, follows, roomForCut, closes, sectionChecks, checksAt}
 use Rattle.sections.specs.History.{Seen, seenAt, previous, lastSeen, firstSeen, cutsOf, cutsSeen, contextOf}
-use Rattle.sections.specs.Accepted.{Kinds, Section, Body, Cuts, none, own, shared, PastZero}
+use Rattle.sections.specs.Accepted.{Kinds, Section, Body, Cuts, none, own, shared, PastZero, sectionAt}
 use Rattle.sections.specs.Refused.{AllHold}
 use Rattle.sections.specs.declared.Cut.{Cut}
 use Rattle.sections.proofs.Framed.{Framed, framed-is, framed-of}
 use Rattle.sections.proofs.Order.{Follow, f01, f13, f34, f45, f56, f67, f73, f74, follow}
 use Rattle.sections.proofs.Faults.{Clean, clean, cleaned, checks-end}
 use Rattle.sections.proofs.Sections.{Rest, stop, step}
+use Rattle.sections.proofs.Held.{Known, long-at, held-at}
 use Rattle.sections.proofs.Own.{Says, section-of, section1-of, section6-of, own1, own6}
 
 -- a section of number n at a place, passed
@@ -108,6 +109,17 @@ pub record CutsOn (o : Own) (s : List ℕ) (end : ℕ) (seen : List Seen) (at : 
 
 -- what a format says of its sections, and its checks, which ask just that
 module _ (o : Own) (kinds : Kinds) (says : Says o kinds) where
+  -- the section 3 last seen is another
+  under : (s : List ℕ) (end : ℕ) → end ≤ length s → (first s3 at b : ℕ) → Known kinds s first s3 → Section s end 3 at b → kinds .Three (sectionAt s at)
+      → Known kinds s first at
+  under s end inside first s3 at b n h t = record { held4 = n .held4; long4 = n .long4; held3 = held-at s end 3 at b inside h; three = t }
+
+  -- what is known once a section 4 has passed that is compared with itself
+  itself : (s : List ℕ) (end : ℕ) → end ≤ length s → (first s3 at b : ℕ) → Known kinds s first s3 → Section s end 4 at b → 30 ≤ lengthAt s at → Known kinds s at s3
+  itself s end inside first s3 at b n h le =
+      let l = long-at s end 4 at b inside h in
+      record { held4 = held-at s end 4 at b inside h; long4 = omega arith; held3 = n .held3; three = n .three }
+
   -- ── four of them: a cut from its section 4 on ──
 
   abbrev afterBody : ℕ → ℕ → ℕ → ℕ → List Seen → List Seen
@@ -127,10 +139,10 @@ module _ (o : Own) (kinds : Kinds) (says : Says o kinds) where
     pub more : cutsSeen seen' ≡ cutsSeen seen + 1
     pub cuts : cutsOf seen' ≡ cutsOf seen ++ (cut ∷ [])
 
-  body-off : (s : List ℕ) (end : ℕ) (first s3 : ℕ) (seen : List Seen) (at : ℕ) (all : List Seen) → firstSeen 4 at seen ≡ first → lastSeen 3 seen ≡ s3
-      → Peeled o s end seen at 4 all → BodyOff s end first s3 seen at all
+  body-off : (s : List ℕ) (end : ℕ) → end ≤ length s → (first s3 : ℕ) → Known kinds s first s3 → (seen : List Seen) (at : ℕ) (all : List Seen)
+      → firstSeen 4 at seen ≡ first → lastSeen 3 seen ≡ s3 → Peeled o s end seen at 4 all → BodyOff s end first s3 seen at all
   unfolding contextOf lastSeen firstSeen cutsSeen cutsOf sectionChecks
-  body-off s end first s3 seen at all ef e3 p4 =
+  body-off s end inside first s3 known seen at all ef e3 p4 =
       let len4 = lengthAt s at in
       let s5 = at + len4 in
       let seen4 = seenAs 4 at ∷ seen in
@@ -141,9 +153,16 @@ module _ (o : Own) (kinds : Kinds) (says : Says o kinds) where
       let s7 = s6 + lengthAt s s6 in
       let seen6 = seenAs 6 s6 ∷ seen5 in
       let p7 = peel o s end seen6 s7 6 all refl (λ z. omega arith) (p6 .rest) in
-      let four = says .four s (contextOf seen at) at (p4 .its-own) in
-      let five = says .five s (contextOf seen4 s5) s5 (p5 .its-own) in
-      let seven = says .seven s (contextOf seen6 s7) s7 (p7 .its-own) in
+      let is4 = section-of o s end (contextOf seen at) at 4 (p4 .number) (p4 .frame) in
+      let is5 = section-of o s end (contextOf seen4 s5) s5 5 (p5 .number) (p5 .frame) in
+      let is7 = section-of o s end (contextOf seen6 s7) s7 7 (p7 .number) (p7 .frame) in
+      let h5 = held-at s end 5 s5 s6 inside is5 in
+      let h7 = held-at s end 7 s7 (s7 + lengthAt s s7) inside is7 in
+      let known' : Known kinds s (firstSeen 4 at seen) (lastSeen 3 seen) = rw (ef, e3) known in
+      let self = itself s end inside (firstSeen 4 at seen) (lastSeen 3 seen) at s5 known' is4 (says .long-four s (contextOf seen at) at (p4 .its-own)) in
+      let four = says .four s (contextOf seen at) at known' (self .held4) (p4 .its-own) in
+      let five = says .five s (contextOf seen4 s5) s5 self h5 (p5 .its-own) in
+      let seven = says .seven s (contextOf seen6 s7) s7 at self h5 five h7 (p7 .its-own) in
       let l4 = p4 .frame .long in
       let l5 = p5 .frame .long in
       let l6 = p6 .frame .long in
@@ -156,13 +175,15 @@ module _ (o : Own) (kinds : Kinds) (says : Says o kinds) where
               s5 = s5;
               s6 = s6;
               s7 = s7;
-              four = section-of o s end (contextOf seen at) at 4 (p4 .number) (p4 .frame);
-              four-is = subst (λ (f : ℕ). kinds .Four s f s3 at) ef (subst (λ (g : ℕ). kinds .Four s (firstSeen 4 at seen) g at) e3 four);
-              five = section-of o s end (contextOf seen4 s5) s5 5 (p5 .number) (p5 .frame);
-              five-is = subst (λ (g : ℕ). kinds .Five s g at s5) e3 five;
+              four = is4;
+              four-is =
+                  subst (λ (f : ℕ). kinds .Four (sectionAt s f) (sectionAt s s3) (sectionAt s at)) ef
+                  (subst (λ (g : ℕ). kinds .Four (sectionAt s (firstSeen 4 at seen)) (sectionAt s g) (sectionAt s at)) e3 four);
+              five = is5;
+              five-is = subst (λ (g : ℕ). kinds .Five (sectionAt s g) (sectionAt s at) (sectionAt s s5)) e3 five;
               six = section6-of o s end (contextOf seen5 s6) s6 (p6 .number) (p6 .frame) (p6 .its-own);
-              seven = section-of o s end (contextOf seen6 s7) s7 7 (p7 .number) (p7 .frame);
-              seven-is = subst (λ (g : ℕ). kinds .Seven s g s5 s7) e3 seven;
+              seven = is7;
+              seven-is = subst (λ (g : ℕ). kinds .Seven (sectionAt s g) (sectionAt s s5) (sectionAt s s7)) e3 seven;
               is = refl;
             };
         seen' = afterBody at s5 s6 s7 seen;
@@ -196,7 +217,7 @@ module _ (o : Own) (kinds : Kinds) (says : Says o kinds) where
 
   abbrev CutsFrom : ℕ → List ℕ → ℕ → ℕ → List Seen → Type 0
   CutsFrom f s end first all =
-      (s3 : ℕ) (seen : List Seen) (at : ℕ) → end < at + f → at ≤ end → previous seen ≡ 7 → lastSeen 3 seen ≡ s3 → ((d : ℕ) → firstSeen 4 d seen ≡ first)
+      (s3 : ℕ) → Known kinds s first s3 → (seen : List Seen) (at : ℕ) → end < at + f → at ≤ end → previous seen ≡ 7 → lastSeen 3 seen ≡ s3 → ((d : ℕ) → firstSeen 4 d seen ≡ first)
       → cutsSeen seen ≤ 64 → Rest o s end seen at all → CutsOff s end first s3 seen at all
 
   -- one cut put before those that follow it
@@ -208,15 +229,15 @@ module _ (o : Own) (kinds : Kinds) (says : Says o kinds) where
       ∙ append-assoc (cutsOf seen) (b .cut ∷ []) (c .cs)
 
   -- a cut of 4 5 6 7
-  shared-off : (f : ℕ) (s : List ℕ) (end first : ℕ) (all : List Seen) → CutsFrom f s end first all
-      → (s3 : ℕ) (seen : List Seen) (at : ℕ) → end < at + suc f → lastSeen 3 seen ≡ s3 → ((d : ℕ) → firstSeen 4 d seen ≡ first)
+  shared-off : (f : ℕ) (s : List ℕ) (end : ℕ) → end ≤ length s → (first : ℕ) (all : List Seen) → CutsFrom f s end first all
+      → (s3 : ℕ) → Known kinds s first s3 → (seen : List Seen) (at : ℕ) → end < at + suc f → lastSeen 3 seen ≡ s3 → ((d : ℕ) → firstSeen 4 d seen ≡ first)
       → Peeled o s end seen at 4 all → CutsOff s end first s3 seen at all
-  shared-off f s end first all go s3 seen at reach e3 ef p =
-      let b = body-off s end first s3 seen at all (ef at) e3 p in
+  shared-off f s end inside first all go s3 known seen at reach e3 ef p =
+      let b = body-off s end inside first s3 known seen at all (ef at) e3 p in
       let lt = fewer s seen at 4 (p .roomy) (p .number) refl in
       let further = b .further in
       let more = b .more in
-      let c = go s3 (b .seen') (b .next) (omega arith) (b .inside) (b .seven) (b .same3) (b .same4) (omega arith) (b .rest) in
+      let c = go s3 known (b .seen') (b .next) (omega arith) (b .inside) (b .seven) (b .same3) (b .same4) (omega arith) (b .rest) in
       record {
         cs = b .cut ∷ c .cs;
         cuts = shared (b .body) (c .cuts);
@@ -226,22 +247,23 @@ module _ (o : Own) (kinds : Kinds) (says : Says o kinds) where
       }
 
   -- a cut of 3 4 5 6 7
-  own-off : (f : ℕ) (s : List ℕ) (end first : ℕ) (all : List Seen) → CutsFrom f s end first all
-      → (s3 : ℕ) (seen : List Seen) (at : ℕ) → end < at + suc f → ((d : ℕ) → firstSeen 4 d seen ≡ first)
+  own-off : (f : ℕ) (s : List ℕ) (end : ℕ) → end ≤ length s → (first : ℕ) (all : List Seen) → CutsFrom f s end first all
+      → (s3 : ℕ) → Known kinds s first s3 → (seen : List Seen) (at : ℕ) → end < at + suc f → ((d : ℕ) → firstSeen 4 d seen ≡ first)
       → Peeled o s end seen at 3 all → CutsOff s end first s3 seen at all
   unfolding lastSeen firstSeen cutsSeen cutsOf sectionChecks
-  own-off f s end first all go s3 seen at reach ef p =
+  own-off f s end inside first all go s3 known seen at reach ef p =
       let s4 = at + lengthAt s at in
       let seen3 = seenAs 3 at ∷ seen in
       let three = section-of o s end (contextOf seen at) at 3 (p .number) (p .frame) in
-      let three-is = says .three s (contextOf seen at) at (p .its-own) in
+      let three-is = says .three s (contextOf seen at) at (held-at s end 3 at s4 inside three) (p .its-own) in
+      let known' = under s end inside first s3 at s4 known three three-is in
       let p4 = peel o s end seen3 s4 3 all refl (λ z. omega arith) (p .rest) in
-      let b = body-off s end first at seen3 s4 all (ef s4) refl p4 in
+      let b = body-off s end inside first at known' seen3 s4 all (ef s4) refl p4 in
       let lt = fewer s seen at 3 (p .roomy) (p .number) refl in
       let l3 = p .frame .long in
       let further = b .further in
       let more = b .more in
-      let c = go at (b .seen') (b .next) (omega arith) (b .inside) (b .seven) (b .same3) (b .same4) (omega arith) (b .rest) in
+      let c = go at known' (b .seen') (b .next) (omega arith) (b .inside) (b .seven) (b .same3) (b .same4) (omega arith) (b .rest) in
       record {
         cs = b .cut ∷ c .cs;
         cuts = own three three-is (b .body) (c .cuts);
@@ -250,9 +272,9 @@ module _ (o : Own) (kinds : Kinds) (says : Says o kinds) where
         eight = c .eight;
       }
 
-  cuts-off : (f : ℕ) (s : List ℕ) (end first : ℕ) (all : List Seen) → CutsFrom f s end first all
-  cuts-off zero s end first all s3 seen at reach le e7 e3 ef few r = absurd (omega arith)
-  cuts-off (suc f) s end first all s3 seen at reach le e7 e3 ef few (stop there h) =
+  cuts-off : (f : ℕ) (s : List ℕ) (end : ℕ) → end ≤ length s → (first : ℕ) (all : List Seen) → CutsFrom f s end first all
+  cuts-off zero s end inside first all s3 known seen at reach le e7 e3 ef few r = absurd (omega arith)
+  cuts-off (suc f) s end inside first all s3 known seen at reach le e7 e3 ef few (stop there h) =
       let k = closed-of o s end seen at there h in
       record {
         cs = [];
@@ -261,13 +283,13 @@ module _ (o : Own) (kinds : Kinds) (says : Says o kinds) where
         few = few;
         eight = subst (λ (a : ℕ). meetsAll s a rules8 ≡ true) there (k .eight);
       }
-  cuts-off (suc f) s end first all s3 seen at reach le e7 e3 ef few (step open-end h r) =
+  cuts-off (suc f) s end inside first all s3 known seen at reach le e7 e3 ef few (step open-end h r) =
       let k = clean o s end (contextOf seen at) at open-end h in
       let fr = framed-is s end (contextOf seen at) at (k .frame) in
       let n = subst (λ (q : ℕ). Follow q (numberAt s at)) e7 (allowed-is s end seen at fr) in
       after-seven (numberAt s at) n
-      (λ e. own-off f s end first all (cuts-off f s end first all) s3 seen at reach ef (peeled o s end seen at 3 all e k r))
-      (λ e. shared-off f s end first all (cuts-off f s end first all) s3 seen at reach e3 ef (peeled o s end seen at 4 all e k r))
+      (λ e. own-off f s end inside first all (cuts-off f s end inside first all) s3 known seen at reach ef (peeled o s end seen at 3 all e k r))
+      (λ e. shared-off f s end inside first all (cuts-off f s end inside first all) s3 known seen at reach e3 ef (peeled o s end seen at 4 all e k r))
 
   -- ── back: one section on the front ──
 
@@ -291,24 +313,30 @@ module _ (o : Own) (kinds : Kinds) (says : Says o kinds) where
       step open-end (cleaned o s end (contextOf seen at) at open-end k)
       (subst (λ (m : ℕ). Rest o s end (seenAs m at ∷ seen) (at + lengthAt s at) all) (sym (sec .number)) moved)
 
-  body-on : (s : List ℕ) (end first s3 : ℕ) (seen : List Seen) (at : ℕ) (c : Cut) (next p : ℕ) (all : List Seen) (b : Body kinds s end first s3 at c next)
+  body-on : (s : List ℕ) (end : ℕ) → end ≤ length s → (first s3 : ℕ) → Known kinds s first s3 → (seen : List Seen) (at : ℕ) (c : Cut) (next p : ℕ) (all : List Seen) (b : Body kinds s end first s3 at c next)
       → previous seen ≡ p → follows p 4 ≡ true → firstSeen 4 at seen ≡ first → lastSeen 3 seen ≡ s3 → cutsSeen seen < 64
       → Rest o s end (afterBody at (b .s5) (b .s6) (b .s7) seen) next all → Rest o s end seen at all
   unfolding contextOf lastSeen firstSeen cutsSeen follows sectionChecks
-  body-on s end first s3 seen at c next p all b e may ef e3 few r =
+  body-on s end inside first s3 known seen at c next p all b e may ef e3 few r =
       let s5 = b .s5 in
       let s6 = b .s6 in
       let s7 = b .s7 in
       let seen4 = seenAs 4 at ∷ seen in
       let seen5 = seenAs 5 s5 ∷ seen4 in
       let seen6 = seenAs 6 s6 ∷ seen5 in
-      let four : kinds .Four s (firstSeen 4 at seen) (lastSeen 3 seen) at = rw (ef, e3) (b .four-is) in
-      let five : kinds .Five s (lastSeen 3 seen) at s5 = rw e3 (b .five-is) in
-      let seven : kinds .Seven s (lastSeen 3 seen) s5 s7 = rw e3 (b .seven-is) in
-      push s end seen at 4 p s5 all e may (b .four) few (says .of-four s (contextOf seen at) at four)
-      (push s end seen4 s5 5 4 s6 all refl refl (b .five) few (says .of-five s (contextOf seen4 s5) s5 five)
+      let h5 = held-at s end 5 s5 s6 inside (b .five) in
+      let h7 = held-at s end 7 s7 next inside (b .seven) in
+      let l4 = long-at s end 4 at s5 inside (b .four) in
+      let m4 = says .four-long _ _ _ (b .four-is) in
+      let known' : Known kinds s (firstSeen 4 at seen) (lastSeen 3 seen) = rw (ef, e3) known in
+      let self = itself s end inside (firstSeen 4 at seen) (lastSeen 3 seen) at s5 known' (b .four) (omega arith) in
+      let four : kinds .Four (sectionAt s (firstSeen 4 at seen)) (sectionAt s (lastSeen 3 seen)) (sectionAt s at) = rw (ef, e3) (b .four-is) in
+      let five : kinds .Five (sectionAt s (lastSeen 3 seen)) (sectionAt s at) (sectionAt s s5) = rw e3 (b .five-is) in
+      let seven : kinds .Seven (sectionAt s (lastSeen 3 seen)) (sectionAt s s5) (sectionAt s s7) = rw e3 (b .seven-is) in
+      push s end seen at 4 p s5 all e may (b .four) few (says .of-four s (contextOf seen at) at known' (self .held4) four)
+      (push s end seen4 s5 5 4 s6 all refl refl (b .five) few (says .of-five s (contextOf seen4 s5) s5 self h5 five)
       (push s end seen5 s6 6 5 s7 all refl refl (b .six .here) few (own6 o s end (contextOf seen5 s6) s6 (b .six))
-      (push s end seen6 s7 7 6 next all refl refl (b .seven) few (says .of-seven s (contextOf seen6 s7) s7 at five seven) r)))
+      (push s end seen6 s7 7 6 next all refl refl (b .seven) few (says .of-seven s (contextOf seen6 s7) s7 at self h5 five h7 seven) r)))
 
   -- the cuts of a history with one body more
   body-cuts : (first s3 at next : ℕ) (s : List ℕ) (end : ℕ) (seen : List Seen) (c : Cut) (b : Body kinds s end first s3 at c next) → lastSeen 3 seen ≡ s3
@@ -318,32 +346,33 @@ module _ (o : Own) (kinds : Kinds) (says : Says o kinds) where
       ap (λ (k : ℕ). cutsOf seen ++ (record { section3 = k; section4 = at; section5 = b .s5; section7 = b .s7 } ∷ [])) e
       ∙ ap (λ (x : Cut). cutsOf seen ++ (x ∷ [])) (sym (b .is))
 
-  cuts-on : (s : List ℕ) (end first s3 : ℕ) (seen : List Seen) (at : ℕ) (cs : List Cut) → Cuts kinds s end first s3 at cs → meetsAll s end rules8 ≡ true
+  cuts-on : (s : List ℕ) (end : ℕ) → end ≤ length s → (first s3 : ℕ) → Known kinds s first s3 → (seen : List Seen) (at : ℕ) (cs : List Cut) → Cuts kinds s end first s3 at cs → meetsAll s end rules8 ≡ true
       → previous seen ≡ 7 → lastSeen 3 seen ≡ s3 → ((d : ℕ) → firstSeen 4 d seen ≡ first) → cutsSeen seen + length cs ≤ 64
       → CutsOn o s end seen at cs
   unfolding lastSeen firstSeen cutsSeen cutsOf follows sectionChecks
-  cuts-on s end first s3 seen at cs none eight e7 e3 ef few =
+  cuts-on s end inside first s3 known seen at cs none eight e7 e3 ef few =
       record { all = seen; rest = stop refl (of-closed o s end seen end refl (record { seven = e7; eight = eight })); all-are = sym (append-nil (cutsOf seen)) }
-  cuts-on s end first s3 seen at cs (own {b = s4} {next = next} {c = c} {cs = ds} three three-is b r) eight e7 e3 ef few =
+  cuts-on s end inside first s3 known seen at cs (own {b = s4} {next = next} {c = c} {cs = ds} three three-is b r) eight e7 e3 ef few =
       let seen3 = seenAs 3 at ∷ seen in
       let lt : cutsSeen seen < 64 = omega arith in
-      let k = cuts-on s end first at (afterBody s4 (b .s5) (b .s6) (b .s7) seen3) next ds r eight refl refl (λ d. ef s4) (omega arith) in
+      let known' = under s end inside first s3 at s4 known three three-is in
+      let k = cuts-on s end inside first at known' (afterBody s4 (b .s5) (b .s6) (b .s7) seen3) next ds r eight refl refl (λ d. ef s4) (omega arith) in
       record {
         all = k .all;
         rest =
-            push s end seen at 3 7 s4 (k .all) e7 refl three lt (says .of-three s (contextOf seen at) at three-is)
-            (body-on s end first at seen3 s4 c next 3 (k .all) b refl refl (ef s4) refl lt (k .rest));
+            push s end seen at 3 7 s4 (k .all) e7 refl three lt (says .of-three s (contextOf seen at) at (known' .held3) three-is)
+            (body-on s end inside first at known' seen3 s4 c next 3 (k .all) b refl refl (ef s4) refl lt (k .rest));
         all-are =
             k .all-are
             ∙ ap (λ (l : List Cut). l ++ ds) (body-cuts first at s4 next s end seen3 c b refl)
             ∙ append-assoc (cutsOf seen) (c ∷ []) ds;
       }
-  cuts-on s end first s3 seen at cs (shared {next = next} {c = c} {cs = ds} b r) eight e7 e3 ef few =
+  cuts-on s end inside first s3 known seen at cs (shared {next = next} {c = c} {cs = ds} b r) eight e7 e3 ef few =
       let lt : cutsSeen seen < 64 = omega arith in
-      let k = cuts-on s end first s3 (afterBody at (b .s5) (b .s6) (b .s7) seen) next ds r eight refl e3 (λ d. ef at) (omega arith) in
+      let k = cuts-on s end inside first s3 known (afterBody at (b .s5) (b .s6) (b .s7) seen) next ds r eight refl e3 (λ d. ef at) (omega arith) in
       record {
         all = k .all;
-        rest = body-on s end first s3 seen at c next 7 (k .all) b e7 refl (ef at) e3 lt (k .rest);
+        rest = body-on s end inside first s3 known seen at c next 7 (k .all) b e7 refl (ef at) e3 lt (k .rest);
         all-are =
             k .all-are
             ∙ ap (λ (l : List Cut). l ++ ds) (body-cuts first s3 at next s end seen c b e3)
@@ -352,9 +381,9 @@ module _ (o : Own) (kinds : Kinds) (says : Says o kinds) where
 
   -- ── the whole file past section 0 ──
 
-  pub past-off : (s : List ℕ) (end : ℕ) (all : List Seen) → cutsSeen all ≡ length (cutsOf all) → Rest o s end [] 16 all → PastZero kinds s end (cutsOf all)
+  pub past-off : (s : List ℕ) (end : ℕ) → end ≤ length s → (all : List Seen) → cutsSeen all ≡ length (cutsOf all) → Rest o s end [] 16 all → PastZero kinds s end (cutsOf all)
   unfolding lastSeen firstSeen cutsSeen cutsOf sectionChecks
-  past-off s end all count r =
+  past-off s end inside all count r =
       let p1 = peel o s end [] 16 0 all refl (λ z. omega arith) r in
       let s3 = 16 + lengthAt s 16 in
       let seen1 = seenAs 1 16 ∷ [] in
@@ -362,9 +391,16 @@ module _ (o : Own) (kinds : Kinds) (says : Says o kinds) where
       let s4 = s3 + lengthAt s s3 in
       let seen3 = seenAs 3 s3 ∷ seen1 in
       let p4 = peel o s end seen3 s4 3 all refl (λ z. omega arith) (p3 .rest) in
-      let b = body-off s end s4 s3 seen3 s4 all refl refl p4 in
+      let three = section-of o s end (contextOf seen1 s3) s3 3 (p3 .number) (p3 .frame) in
+      let three-is = says .three s (contextOf seen1 s3) s3 (held-at s end 3 s3 s4 inside three) (p3 .its-own) in
+      let is4 = section-of o s end (contextOf seen3 s4) s4 4 (p4 .number) (p4 .frame) in
+      let l4 = long-at s end 4 s4 (s4 + lengthAt s s4) inside is4 in
+      let m4 = says .long-four s (contextOf seen3 s4) s4 (p4 .its-own) in
+      let known : Known kinds s s4 s3 =
+      record { held4 = held-at s end 4 s4 (s4 + lengthAt s s4) inside is4; long4 = omega arith; held3 = held-at s end 3 s3 s4 inside three; three = three-is } in
+      let b = body-off s end inside s4 s3 known seen3 s4 all refl refl p4 in
       let more = b .more in
-      let c = cuts-off (suc end) s end s4 all s3 (b .seen') (b .next) (omega arith) (b .inside) (b .seven) (b .same3) (b .same4) (omega arith) (b .rest) in
+      let c = cuts-off (suc end) s end inside s4 all s3 known (b .seen') (b .next) (omega arith) (b .inside) (b .seven) (b .same3) (b .same4) (omega arith) (b .rest) in
       let few = c .few in
       record {
         s3 = s3;
@@ -373,8 +409,8 @@ module _ (o : Own) (kinds : Kinds) (says : Says o kinds) where
         cut = b .cut;
         later = c .cs;
         one = section1-of o s end (contextOf [] 16) 16 (p1 .number) (p1 .frame) (p1 .its-own);
-        three = section-of o s end (contextOf seen1 s3) s3 3 (p3 .number) (p3 .frame);
-        three-is = says .three s (contextOf seen1 s3) s3 (p3 .its-own);
+        three = three;
+        three-is = three-is;
         body = b .body;
         cuts = c .cuts;
         few = omega arith;
@@ -382,9 +418,9 @@ module _ (o : Own) (kinds : Kinds) (says : Says o kinds) where
         are = c .all-are ∙ ap (λ (l : List Cut). l ++ c .cs) (b .cuts);
       }
 
-  pub past-on : (s : List ℕ) (end : ℕ) (cs : List Cut) → PastZero kinds s end cs → CutsOn o s end [] 16 cs
+  pub past-on : (s : List ℕ) (end : ℕ) → end ≤ length s → (cs : List Cut) → PastZero kinds s end cs → CutsOn o s end [] 16 cs
   unfolding lastSeen firstSeen cutsSeen cutsOf follows sectionChecks
-  past-on s end cs w =
+  past-on s end inside cs w =
       let s3 = w .s3 in
       let s4 = w .s4 in
       let b = w .body in
@@ -392,12 +428,19 @@ module _ (o : Own) (kinds : Kinds) (says : Says o kinds) where
       let seen3 = seenAs 3 s3 ∷ seen1 in
       let len = ap length (w .are) in
       let few = w .few in
-      let k = cuts-on s end s4 s3 (afterBody s4 (b .s5) (b .s6) (b .s7) seen3) (w .next) (w .later) (w .cuts) (w .eight) refl refl (λ d. refl) (omega arith) in
+      let known : Known kinds s s4 s3 =
+      record {
+        held4 = held-at s end 4 s4 (b .s5) inside (b .four);
+        long4 = says .four-long _ _ _ (b .four-is);
+        held3 = held-at s end 3 s3 s4 inside (w .three);
+        three = w .three-is;
+      } in
+      let k = cuts-on s end inside s4 s3 known (afterBody s4 (b .s5) (b .s6) (b .s7) seen3) (w .next) (w .later) (w .cuts) (w .eight) refl refl (λ d. refl) (omega arith) in
       record {
         all = k .all;
         rest =
             push s end [] 16 1 0 s3 (k .all) refl refl (w .one .here) (omega arith) (own1 o s end (contextOf [] 16) 16 (w .one))
-            (push s end seen1 s3 3 1 s4 (k .all) refl refl (w .three) (omega arith) (says .of-three s (contextOf seen1 s3) s3 (w .three-is))
-            (body-on s end s4 s3 seen3 s4 (w .cut) (w .next) 3 (k .all) b refl refl refl refl (omega arith) (k .rest)));
+            (push s end seen1 s3 3 1 s4 (k .all) refl refl (w .three) (omega arith) (says .of-three s (contextOf seen1 s3) s3 (known .held3) (w .three-is))
+            (body-on s end inside s4 s3 known seen3 s4 (w .cut) (w .next) 3 (k .all) b refl refl refl refl (omega arith) (k .rest)));
         all-are = k .all-are ∙ ap (λ (l : List Cut). l ++ w .later) (body-cuts s4 s3 s4 (w .next) s end seen3 (w .cut) b refl) ∙ sym (w .are);
       }

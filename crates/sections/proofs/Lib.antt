@@ -2,6 +2,8 @@ pub mod Framed
 pub mod Order
 pub mod Faults
 pub mod Sections
+pub mod Held
+pub mod Alike
 pub mod Own
 pub mod Grammar
 pub mod Exact

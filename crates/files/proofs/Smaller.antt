@@ -1,0 +1,208 @@
+-- Wishes 8 and 13 over octets: a file assembled from cuts that stood in another is a file with just these cuts.
+use Prim.Native.Nat.{ℕ, zero, _+_, _/_, _%_, _^_, _≤_, _<_}
+use mathlib.Core.Path.{_≡_, refl, sym, _∙_, ap, subst}
+use mathlib.Core.List.{List, [], _∷_, _++_}
+use mathlib.Core.Bool.{Bool, true, false, cond}
+use native.Mathlib.Omega.{arith}
+use lib.Dec.{eqb}
+use Rattle.octets.specs.Octets.{be}
+use lib.ListN.{length, length-append}
+use Rattle.rules.specs.Rules.{field, meets, meetsAll, rules0, rules1, rules8}
+use Rattle.values.specs.Table.{same}
+use Rattle.values.proofs.Octets.{same-eq, same-refl}
+use Rattle.sections.specs.Accepted.{Meets, Kinds}
+use Rattle.files.specs.File.{Is, Parts, Whole, Cuts, none, own, shared, File, firstFour, bodyOf}
+use Rattle.files.specs.Smaller.{chosen, cutsAfter, totalled, assembled}
+use Rattle.files.proofs.Total.{totalled-long, totalled-is}
+use Rattle.files.proofs.FromFile.{body-length}
+
+-- any cut's section 4 may be the first
+abbrev pub Regular : Kinds → Type 0
+Regular f = (first s3 a s3' b : List ℕ) → f .Four first s3 a → f .Four first s3' b → f .Four a s3' b
+
+-- some of the cuts, in order
+pub data Some : List Parts → List Parts → Type 0 where
+  nil : Some [] []
+  take-it : {p : Parts} {qs ps : List Parts} → Some qs ps → Some (p ∷ qs) (p ∷ ps)
+  leave-it : {p : Parts} {qs ps : List Parts} → Some qs ps → Some qs (p ∷ ps)
+
+pub chosen-some : (w : ℕ) (ps : List Parts) → Some (chosen w ps) ps
+chosen-some w [] = nil
+chosen-some w (p ∷ ps) = go (eqb (w % 2) 1) (chosen-some (w / 2) ps)
+  where
+    go : (b : Bool) → Some (chosen (w / 2) ps) ps → Some (cond b (p ∷ chosen (w / 2) ps) (chosen (w / 2) ps)) (p ∷ ps)
+    go true r = take-it r
+    go false r = leave-it r
+
+pub some-few : (qs ps : List Parts) → Some qs ps → length qs ≤ length ps
+some-few qs ps nil = omega arith
+some-few qs ps (take-it {qs = q} {ps = p} r) = let h = some-few q p r in omega arith
+some-few qs ps (leave-it {ps = p} r) = let h = some-few qs p r in omega arith
+
+-- each of the cuts is whole
+pub data Each (f : Kinds) (first : List ℕ) : List Parts → Type 0 where
+  nil : Each f first []
+  one : {p : Parts} {ps : List Parts} → Whole f first p → Each f first ps → Each f first (p ∷ ps)
+
+module _ (f : Kinds) (first : List ℕ) where
+  pub each-of : (s3 : List ℕ) (ps : List Parts) (rest : List ℕ) → Cuts f first s3 ps rest → Each f first ps
+  each-of s3 ps rest none = nil
+  each-of s3 ps rest (own {rest = r} {p = p} {ps = qs} w c) = one w (each-of (p .three) qs r c)
+  each-of s3 ps rest (shared {rest = r} {p = p} {ps = qs} w c) = one w (each-of (p .three) qs r c)
+
+  pub each-some : (qs ps : List Parts) → Some qs ps → Each f first ps → Each f first qs
+  each-some qs ps nil e = nil
+  each-some qs ps (take-it {qs = q} {ps = p} r) (one w e) = one w (each-some q p r e)
+  each-some qs ps (leave-it {ps = p} r) (one w e) = each-some qs p r e
+
+  -- written one after the other, they are cuts
+  pub written-cuts : (s3 : List ℕ) (ps : List Parts) → Each f first ps → Cuts f first s3 ps (cutsAfter s3 ps)
+  written-cuts s3 ps nil = none
+  written-cuts s3 ps (one {p = p} {ps = qs} w e) = go (same s3 (p .three)) refl (written-cuts (p .three) qs e)
+    where
+      go : (b : Bool) → same s3 (p .three) ≡ b → Cuts f first (p .three) qs (cutsAfter (p .three) qs)
+          → Cuts f first s3 (p ∷ qs) (cond b (bodyOf p (cutsAfter (p .three) qs)) (p .three ++ bodyOf p (cutsAfter (p .three) qs)))
+      go true h c =
+          subst (λ (o : List ℕ). Cuts f first o (p ∷ qs) (bodyOf p (cutsAfter (p .three) qs))) (sym (same-eq s3 (p .three) h))
+          (shared w c)
+      go false h c = own w c
+
+  -- no longer than where they stood: each section 3 that is written stood there too
+  abbrev cost : List ℕ → List ℕ → ℕ
+  cost w s3 = cond (same w s3) 0 (length s3)
+
+  cost-le : (w s3 : List ℕ) → cost w s3 ≤ length s3
+  cost-le w s3 = go (same w s3)
+    where
+      go : (b : Bool) → cond b 0 (length s3) ≤ length s3
+      go true = omega arith
+      go false = omega arith
+
+  head-length : (w : List ℕ) (p : Parts) (r : List ℕ)
+      → length (cond (same w (p .three)) (bodyOf p r) (p .three ++ bodyOf p r)) ≡ cost w (p .three) + length (bodyOf p r)
+  head-length w p r = go (same w (p .three))
+    where
+      go : (b : Bool) → length (cond b (bodyOf p r) (p .three ++ bodyOf p r)) ≡ cond b 0 (length (p .three)) + length (bodyOf p r)
+      go true = omega arith
+      go false = length-append (p .three) (bodyOf p r)
+
+  body-less : (p : Parts) (a b : List ℕ) → length a ≤ length b → length (bodyOf p a) ≤ length (bodyOf p b)
+  body-less p a b h = let x = body-length p a in let y = body-length p b in omega arith
+
+  body-more : (p : Parts) (r : List ℕ) → length r ≤ length (bodyOf p r)
+  body-more p r = let x = body-length p r in omega arith
+
+  pub no-longer : (w s3 : List ℕ) (qs ps : List Parts) (rest : List ℕ) → Some qs ps → Cuts f first s3 ps rest
+      → length (cutsAfter w qs) ≤ length rest + cost w s3
+  no-longer w s3 qs ps rest nil c = omega arith
+  no-longer w s3 qs ps rest (take-it {p = p} {qs = us} {ps = vs} t) (own {rest = r} x c) =
+      let ih = no-longer (p .three) (p .three) us vs r t c in
+      let z : cost (p .three) (p .three) ≡ 0 = rw (same-refl (p .three)) in
+      let k = cost-le w (p .three) in
+      let b = body-less p (cutsAfter (p .three) us) r (omega arith) in
+      let e = head-length w p (cutsAfter (p .three) us) in
+      let l = length-append (p .three) (bodyOf p r) in
+      omega arith
+  no-longer w s3 qs ps rest (take-it {p = p} {qs = us} {ps = vs} t) (shared {rest = r} x c) =
+      let ih = no-longer (p .three) (p .three) us vs r t c in
+      let z : cost (p .three) (p .three) ≡ 0 = rw (same-refl (p .three)) in
+      let b = body-less p (cutsAfter (p .three) us) r (omega arith) in
+      let e = head-length w p (cutsAfter (p .three) us) in
+      omega arith
+  no-longer w s3 qs ps rest (leave-it {p = p} {ps = vs} t) (own {rest = r} x c) =
+      let ih = no-longer w (p .three) qs vs r t c in
+      let k = cost-le w (p .three) in
+      let b = body-more p r in
+      let l = length-append (p .three) (bodyOf p r) in
+      omega arith
+  no-longer w s3 qs ps rest (leave-it {p = p} {ps = vs} t) (shared {rest = r} x c) =
+      let ih = no-longer w (p .three) qs vs r t c in
+      let b = body-more p r in
+      omega arith
+
+-- ── another first section 4 ──
+
+other-first : (f : Kinds) → Regular f → (first : List ℕ) (p q : Parts) → Whole f first p → Whole f first q → Whole f (p .four) q
+other-first f reg first p q a b =
+    record {
+      three = b .three;
+      three-is = b .three-is;
+      four = b .four;
+      four-is = reg first (p .three) (p .four) (q .three) (q .four) (a .four-is) (b .four-is);
+      five = b .five;
+      five-is = b .five-is;
+      six = b .six;
+      six-long = b .six-long;
+      six-is = b .six-is;
+      seven = b .seven;
+      seven-is = b .seven-is;
+    }
+
+all-first : (f : Kinds) → Regular f → (first : List ℕ) (p : Parts) (qs : List Parts) → Whole f first p → Each f first qs → Each f (p .four) qs
+all-first f reg first p qs a nil = nil
+all-first f reg first p qs a (one {p = q} {ps = rs} b e) = one (other-first f reg first p q a b) (all-first f reg first p rs a e)
+
+own-first : (f : Kinds) → Regular f → (first : List ℕ) (qs : List Parts) → Each f first qs → Each f (firstFour qs) qs
+own-first f reg first qs nil = nil
+own-first f reg first qs (one {p = p} {ps = rs} a e) = one (other-first f reg first p p a a) (all-first f reg first p rs a e)
+
+-- ── the file ──
+
+abbrev sevens : List ℕ
+sevens = 0x37 ∷ 0x37 ∷ 0x37 ∷ 0x37 ∷ []
+
+sevens-are : Meets sevens 0 rules8
+unfolding rules8 meetsAll meets field be
+sevens-are = refl
+
+-- section 0 of any total, section 1, any cuts: assembled, they are a file with these cuts (wishes 8 and 13)
+pub assembled-file : (f : Kinds) (s0 s1 cuts : List ℕ) (n : ℕ) (ps : List Parts) → length s0 ≡ 16 → Meets s0 0 (rules0 n) → Is 1 s1 → length s1 ≡ 21
+    → Meets s1 0 rules1 → Cuts f (firstFour ps) [] ps cuts → 1 ≤ length ps → length ps ≤ 64 → length cuts ≤ 8388567
+    → File f (assembled s0 s1 cuts) ps
+assembled-file f s0 s1 cuts n ps l0 m0 i1 l1 m1 c some few le =
+    let total = 16 + (length s1 + (length cuts + 4)) in
+    let small : total < 256 ^ 8 = omega arith in
+    let tl = totalled-long s0 l0 n m0 total small in
+    let size : length (assembled s0 s1 cuts) ≡ total =
+    length-append (totalled s0 total) (s1 ++ (cuts ++ sevens))
+    ∙ (λ i. tl i + (length-append s1 (cuts ++ sevens) ∙ ap (λ (k : ℕ). length s1 + k) (length-append cuts sevens)) i) in
+    record {
+      zero = totalled s0 total;
+      one = s1;
+      cuts = cuts;
+      eight = sevens;
+      is = refl;
+      large = omega arith;
+      zero-long = tl;
+      zero-is = subst (λ (k : ℕ). Meets (totalled s0 total) 0 (rules0 k)) (sym size) (totalled-is s0 l0 n m0 total small);
+      one-here = i1;
+      one-long = l1;
+      one-is = m1;
+      cuts-are = c;
+      some = some;
+      few = few;
+      eight-long = refl;
+      eight-is = sevens-are;
+    }
+
+-- WISH 8: the chosen cuts of a file, written after its sections 0 and 1, are a file with just these cuts, and it is no longer
+pub smaller-file : (f : Kinds) → Regular f → (s : List ℕ) (ps qs : List Parts) → (a : File f s ps) → Some qs ps → 1 ≤ length qs
+    → File f (assembled (a .zero) (a .one) (cutsAfter [] qs)) qs
+smaller-file f reg s ps qs a sub some =
+    let few = a .few in
+    let less = some-few qs ps sub in
+    let first = firstFour ps in
+    let e = each-some f first qs ps sub (each-of f first [] ps (a .cuts) (a .cuts-are)) in
+    let short = no-longer f first [] [] qs ps (a .cuts) sub (a .cuts-are) in
+    let size : length s ≡ length (a .zero) + (length (a .one) + (length (a .cuts) + length (a .eight))) =
+    ap length (a .is)
+    ∙ length-append (a .zero) (a .one ++ (a .cuts ++ a .eight))
+    ∙ ap (λ (n : ℕ). length (a .zero) + n) (length-append (a .one) (a .cuts ++ a .eight)
+    ∙ ap (λ (n : ℕ). length (a .one) + n) (length-append (a .cuts) (a .eight))) in
+    let large = a .large in
+    let l0 = a .zero-long in
+    let l1 = a .one-long in
+    let l8 = a .eight-long in
+    let none-due : cost f first [] [] ≡ 0 = rw (same-refl []) in
+    assembled-file f (a .zero) (a .one) (cutsAfter [] qs) (length s) qs (a .zero-long) (a .zero-is) (a .one-here) (a .one-long) (a .one-is)
+    (written-cuts f (firstFour qs) [] qs (own-first f reg first qs e)) some (omega arith) (omega arith)

@@ -1,0 +1,4 @@
+pub mod Told
+pub mod Calls
+pub mod Opened
+pub mod Wishes
