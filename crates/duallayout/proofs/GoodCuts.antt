@@ -5,13 +5,13 @@ use mathlib.Core.List.{List}
 use mathlib.Core.Bool.{true}
 use mathlib.Core.Logic.{_⊎_, inl, inr}
 use native.Mathlib.Omega.{arith}
-use native.Mathlib.Nat.{mul-comm, le-antisymm}
+use native.Mathlib.Nat.{mul-comm}
 use borrow.Author.Tests.{eqb-true}
 use lib.ListN.{length, getD}
 use Rattle.rules.specs.Rules.{is, meets}
 use Rattle.rules.specs.Fields.{binsAt, raysAt, pointsAt}
 use Rattle.rules.proofs.Chains.{and-true-both}
-use Rattle.rules.proofs.Bounds.{nth-rule, within-is, bins-bound, rays-bound}
+use Rattle.rules.proofs.Bounds.{nth-rule, within-is, is-exactly, bins-bound, rays-bound}
 use Rattle.scaled.specs.Scaled.{finiteSingle, Packing}
 use Rattle.sections.specs.Parts.{binsIn, raysIn}
 use Rattle.sections.specs.Verdict.{endOf, noCut, answerFor}
@@ -23,7 +23,7 @@ use Rattle.sections.specs.declared.Found.{Found}
 use Rattle.sections.specs.declared.Walked.the-variants as W
 use Rattle.sections.proofs.Order.{either-of}
 use Rattle.sections.proofs.Each.{contextFor, checked, each-cut, each-found}
-use Rattle.sections.proofs.Held.{Held}
+use Rattle.sections.proofs.There.{AllThere}
 use Rattle.duallayout.specs.Rules.{flagRules, rules3, rules5, widthRule}
 use Rattle.duallayout.specs.Fields.{referenceAt, binaryAt, decimalAt, widthAt, length7}
 use Rattle.duallayout.specs.Checks.{ownChecks}
@@ -35,13 +35,9 @@ use Rattle.duallayout.proofs.Own.{says}
 
 -- ── section 5 ──
 
-eight : (s : List ℕ) (at n : ℕ) → meets s at (is 20 1 n) ≡ true → widthAt s at ≡ n
-unfolding widthAt
-eight s at n h = let w = within-is s at 20 1 n n h in le-antisymm (w .1) (w .0)
-
 width-is : (s : List ℕ) (at : ℕ) → meets s at widthRule ≡ true → (widthAt s at ≡ 8) ⊎ (widthAt s at ≡ 16)
-unfolding meets
-width-is s at h = either-of (meets s at (is 20 1 8)) (meets s at (is 20 1 16)) h (λ e. inl (eight s at 8 e)) (λ e. inr (eight s at 16 e))
+unfolding meets widthAt
+width-is s at h = either-of (meets s at (is 20 1 8)) (meets s at (is 20 1 16)) h (λ e. inl (is-exactly s at 20 1 8 e)) (λ e. inr (is-exactly s at 20 1 16 e))
 
 packing-of : (s : List ℕ) (x : Context) (at : ℕ) → AllHold (ownChecks s x at 5) → Packing (referenceAt s at) (binaryAt s at) (decimalAt s at) (widthAt s at)
 unfolding rules5 binaryAt decimalAt ownChecks
@@ -67,7 +63,7 @@ length-of s s3 s5 w =
     (whole (binsAt s s3 * raysAt s s3) (widthAt s s5) w ∙ ap (λ (n : ℕ). n * (widthAt s s5 / 8)) (mul-comm (binsAt s s3) (raysAt s s3)))
 
 -- one cut, of the body that starts at `at` under the section 3 at `s3`: by the checks of its sections, which all hold
-good-body : (s : List ℕ) (first s3 at : ℕ) (c : Cut) (next : ℕ) → Held s s3 (sectionAt s s3) → Section3 (sectionAt s s3)
+good-body : (s : List ℕ) (first s3 at : ℕ) (c : Cut) (next : ℕ) → AllThere s s3 → Section3 (sectionAt s s3)
     → Body kinds s (endOf s) first s3 at c next → GoodCut s c
 unfolding rules3 referenceIn binaryIn decimalIn widthIn binsIn raysIn ownChecks
 good-body s first s3 at c next h three b =

@@ -1,5 +1,6 @@
-pub mod Same
+pub mod Alike
 pub mod Products
 pub mod Own
+pub mod First
 pub mod Exact
 pub mod GoodCuts

@@ -2,8 +2,8 @@
 // every file has), `rules` (document 01's rules on fields, of which it shares some) and `scaled` (R, and what a cell tells); above it `walks`, which
 // walks over a file, and `dualpol`, the calls.
 //
-// What is to be believed stands in specs/Accepted.antt and, with the order of checks, in specs/Checks.antt, with the rule lists of specs/Rules.antt;
-// proofs/Exact.antt has the theorems that `verdict` accepts and refuses exactly these files.
+// What is to be believed stands in specs/Accepted.antt, by the octets of each section, and in specs/Checks.antt, by places and in the order of checks,
+// with the rule lists of specs/Rules.antt; proofs/Exact.antt has the theorems that `verdict` accepts and refuses exactly these files.
 use sections::FileRefusal;
 use sections::Judged;
 use sections::State;

@@ -3,24 +3,22 @@ use Prim.Native.Nat.{ℕ, _+_, _≤_}
 use mathlib.Core.Path.{_≡_, refl, sym, _∙_, ap, subst}
 use mathlib.Core.List.{List, [], _∷_, _++_, map, append-assoc, append-nil}
 use native.Mathlib.Omega.{arith}
-use lib.ListN.{length, take, drop, length-append, length-map}
+use lib.ListN.{length, drop, length-append, length-map}
 use Rattle.rules.specs.Rules.{rules0, rules1, rules6, rules8}
 use Rattle.rules.specs.Fields.{lengthAt}
 use Rattle.sections.specs.Verdict.{endOf}
 use Rattle.sections.specs.Accepted as A
-use Rattle.sections.specs.Accepted.{Kinds, Body, AcceptedBy, sectionAt}
+use Rattle.sections.specs.Accepted.{Meets, Kinds, Section, Body, AcceptedBy, sectionAt}
 use Rattle.sections.specs.declared.Cut.{Cut}
-use Rattle.rules.proofs.Moved.{Stands, rules-same, drop-drop, drop-append, take-append}
+use Rattle.octets.proofs.Lies.{Lies}
+use Rattle.rules.proofs.Moved.{rules-same}
 use Rattle.files.specs.File.{Parts, partsAt, Whole, Cuts, none, own, shared, File, firstFour, bodyOf}
-use Rattle.files.proofs.Held.{held-of, section-of, octets-of, rest-of}
+use Rattle.files.proofs.Section.{long-of, section-of, octets-of, rest-of}
+use Rattle.files.proofs.Leading.{size-of, past-zero, past-one, past-cuts}
 use Rattle.files.proofs.ToFile.{body-assoc, reach0, reach1, reach8}
 
 pub body-length : (p : Parts) (r : List ℕ) → length (bodyOf p r) ≡ length (p .four) + (length (p .five) + (length (p .six) + (length (p .seven) + length r)))
-body-length p r =
-    length-append (p .four) _
-    ∙ ap (λ (n : ℕ). length (p .four) + n) (length-append (p .five) _
-    ∙ ap (λ (n : ℕ). length (p .five) + n) (length-append (p .six) _
-    ∙ ap (λ (n : ℕ). length (p .six) + n) (length-append (p .seven) r)))
+body-length p r = simp length-append
 
 module _ (f : Kinds) (s : List ℕ) (end : ℕ) where
   record BodyOn (first s3 at : ℕ) (p : Parts) (r : List ℕ) : Type 0 where
@@ -43,16 +41,14 @@ module _ (f : Kinds) (s : List ℕ) (end : ℕ) where
       let r7 = p .seven ++ r in
       let r6 = p .six ++ r7 in
       let r5 = p .five ++ r6 in
-      let e5 : drop s5 s ≡ r5 = rest-of s at (p .four) r5 e 4 (w .four) in
-      let e6 : drop s6 s ≡ r6 = rest-of s s5 (p .five) r6 e5 5 (w .five) in
-      let e7 : drop s7 s ≡ r7 = rest-of s s6 (p .six) r7 e6 6 (w .six) in
-      let e8 : drop next s ≡ r = rest-of s s7 (p .seven) r e7 7 (w .seven) in
-      let h5 = held-of s s5 (p .five) r6 e5 5 (w .five) in
-      let h6 = held-of s s6 (p .six) r7 e6 6 (w .six) in
-      let o4 = octets-of s at (p .four) r5 e 4 (w .four) in
-      let o5 = octets-of s s5 (p .five) r6 e5 5 (w .five) in
-      let o7 = octets-of s s7 (p .seven) r e7 7 (w .seven) in
-      let l5 : s5 + lengthAt s s5 ≡ s6 = ap (λ (n : ℕ). s5 + n) (h5 .long) in
+      let e5 : drop s5 s ≡ r5 = rest-of s at r5 e (w .four) in
+      let e6 : drop s6 s ≡ r6 = rest-of s s5 r6 e5 (w .five) in
+      let e7 : drop s7 s ≡ r7 = rest-of s s6 r7 e6 (w .six) in
+      let e8 : drop next s ≡ r = rest-of s s7 r e7 (w .seven) in
+      let o4 = octets-of s at r5 e (w .four) in
+      let o5 = octets-of s s5 r6 e5 (w .five) in
+      let o7 = octets-of s s7 r e7 (w .seven) in
+      let l5 : s5 + lengthAt s s5 ≡ s6 = ap (λ (n : ℕ). s5 + n) (long-of s s5 r6 e5 (w .five)) in
       let six-long = w .six-long in
       record {
         c = record { section3 = s3; section4 = at; section5 = s5; section7 = s7 };
@@ -62,17 +58,17 @@ module _ (f : Kinds) (s : List ℕ) (end : ℕ) where
               s5 = s5;
               s6 = s6;
               s7 = s7;
-              four = section-of s at (p .four) r5 e 4 (w .four) end (omega arith);
+              four = section-of s at r5 e (w .four) end (omega arith);
               four-is = subst (λ (T : Type 0). T) (λ i. f .Four (sym ef i) (sym e3 i) (sym o4 i)) (w .four-is);
-              five = section-of s s5 (p .five) r6 e5 5 (w .five) end (omega arith);
+              five = section-of s s5 r6 e5 (w .five) end (omega arith);
               five-is = subst (λ (T : Type 0). T) (λ i. f .Five (sym e3 i) (sym o4 i) (sym o5 i)) (w .five-is);
               six =
                   record {
-                    here = section-of s s6 (p .six) r7 e6 6 (w .six) end (omega arith);
-                    long = h6 .long ∙ w .six-long;
-                    rules = rules-same s s6 (p .six) (h6 .stands) 6 (omega arith) rules6 refl ∙ w .six-is;
+                    here = section-of s s6 r7 e6 (w .six) end (omega arith);
+                    long = long-of s s6 r7 e6 (w .six) ∙ w .six-long;
+                    rules = rules-same s s6 (p .six) (record { after = r7; from = e6 }) 6 (omega arith) rules6 refl ∙ w .six-is;
                   };
-              seven = section-of s s7 (p .seven) r e7 7 (w .seven) end (omega arith);
+              seven = section-of s s7 r e7 (w .seven) end (omega arith);
               seven-is = subst (λ (T : Type 0). T) (λ i. f .Seven (sym e3 i) (sym o5 i) (sym o7 i)) (w .seven-is);
               is = refl;
             };
@@ -82,7 +78,7 @@ module _ (f : Kinds) (s : List ℕ) (end : ℕ) where
               three = e3 i;
               four = o4 i;
               five = o5 i;
-              six = (ap (sectionAt s) l5 ∙ octets-of s s6 (p .six) r7 e6 6 (w .six)) i;
+              six = (ap (sectionAt s) l5 ∙ octets-of s s6 r7 e6 (w .six)) i;
               seven = o7 i;
             });
         from = e8;
@@ -104,16 +100,16 @@ module _ (f : Kinds) (s : List ℕ) (end : ℕ) where
       let size = body-length p r in
       let e' : drop at s ≡ p .three ++ (bodyOf p r ++ t) = e ∙ append-assoc (p .three) (bodyOf p r) t in
       let b3 = at + length (p .three) in
-      let eb : drop b3 s ≡ bodyOf p (r ++ t) = rest-of s at (p .three) (bodyOf p r ++ t) e' 3 (w .three) ∙ body-assoc p r t in
+      let eb : drop b3 s ≡ bodyOf p (r ++ t) = rest-of s at (bodyOf p r ++ t) e' (w .three) ∙ body-assoc p r t in
       let lt = body-length p (r ++ t) in
-      let o = octets-of s at (p .three) (bodyOf p r ++ t) e' 3 (w .three) in
+      let o = octets-of s at (bodyOf p r ++ t) e' (w .three) in
       let b = body-on first at b3 of p (r ++ t) ef o w eb (omega arith) in
       let up' = b .up-to in
       let rt = length-append r t in
       let rec = cuts-on first of ef t at (b .next) (p .three) qs r o c (b .from) (omega arith) in
       record {
         cs = b .c ∷ rec .cs;
-        cuts = A.own (section-of s at (p .three) (bodyOf p r ++ t) e' 3 (w .three) end (omega arith)) (subst (f .Three) (sym o) (w .three-is)) (b .body) (rec .cuts);
+        cuts = A.own (section-of s at (bodyOf p r ++ t) e' (w .three) end (omega arith)) (subst (f .Three) (sym o) (w .three-is)) (b .body) (rec .cuts);
         are = (λ i. b .are i ∷ rec .are i);
       }
   cuts-on first of ef t s3 at o3 ps rest e3 (shared {rest = r} {p = p} {ps = qs} w c) e up =
@@ -156,94 +152,71 @@ pub record AcceptedAs (f : Kinds) (s : List ℕ) (ps : List Parts) : Type 0 wher
   pub are : map (partsAt s) cs ≡ ps
 
 pub of-file : (f : Kinds) (s : List ℕ) (ps : List Parts) → File f s ps → AcceptedAs f s ps
-of-file f s ps a =
+of-file f s ps file =
+    let a = file .leading in
+    let t = file .eight in
     let end = endOf s in
-    let first = first-on f (firstFour ps) [] ps (a .cuts) (a .cuts-are) refl (a .some) in
+    let of = firstFour ps in
+    let first = first-on f of [] ps (a .cuts) (a .cuts-are) refl (file .some) in
     let p = first .p in
     let w = first .whole in
-    let of = firstFour ps in
-    let four : firstFour ps ≡ p .four = ap firstFour (first .are) in
-    let t = a .eight in
     let r = first .r in
-    let one-long = a .one-long in
-    let zero-long = a .zero-long in
-    let eight-long = a .eight-long in
-    let b-three = bodyOf p r in
-    let e0 : drop 0 s ≡ a .zero ++ (a .one ++ (a .cuts ++ t)) = a .is in
-    let z0 : Stands s 0 (a .zero) = record { after = a .one ++ (a .cuts ++ t); from = e0 } in
-    let e16 : drop 16 s ≡ a .one ++ (a .cuts ++ t) =
-    ap (λ (n : ℕ). drop n s) (sym (a .zero-long)) ∙ ap (drop (length (a .zero))) (a .is) ∙ drop-append (a .zero) (a .one ++ (a .cuts ++ t)) in
-    let e37' : drop (16 + length (a .one)) s ≡ a .cuts ++ t = rest-of s 16 (a .one) (a .cuts ++ t) e16 1 (a .one-here) in
-    let s3 = 16 + length (a .one) in
-    let e37 : drop s3 s ≡ p .three ++ (bodyOf p r ++ t) = e37' ∙ ap (λ (x : List ℕ). x ++ t) (first .is) ∙ append-assoc (p .three) (bodyOf p r) t in
-    let s4 = s3 + length (p .three) in
-    let eb : drop s4 s ≡ bodyOf p (r ++ t) = rest-of s s3 (p .three) (bodyOf p r ++ t) e37 3 (w .three) ∙ body-assoc p r t in
-    let size : length s ≡ length (a .zero) + (length (a .one) + (length (a .cuts) + length t)) =
-    ap length (a .is)
-    ∙ length-append (a .zero) (a .one ++ (a .cuts ++ t))
-    ∙ ap (λ (n : ℕ). length (a .zero) + n) (length-append (a .one) (a .cuts ++ t)
-    ∙ ap (λ (n : ℕ). length (a .one) + n) (length-append (a .cuts) t)) in
+    let four : of ≡ p .four = ap firstFour (first .are) in
+    let l0 = a .zero-long in
+    let l1 = a .one-long in
+    let l8 = file .eight-long in
+    let size = size-of a in
     let cuts-size : length (a .cuts) ≡ length (p .three) + length (bodyOf p r) = ap length (first .is) ∙ length-append (p .three) (bodyOf p r) in
     let lb = body-length p r in
     let lt = body-length p (r ++ t) in
     let rt = length-append r t in
-    let o3 = octets-of s s3 (p .three) (bodyOf p r ++ t) e37 3 (w .three) in
-    let o4 : sectionAt s s4 ≡ of = octets-of s s4 (p .four) _ eb 4 (w .four) ∙ sym four in
-    let three = section-of s s3 (p .three) (bodyOf p r ++ t) e37 3 (w .three) end (omega arith) in
-    let b = body-on f s end s4 s3 s4 of p (r ++ t) o4 o3 w eb (omega arith) in
+    let one-here = section-of s 16 (a .cuts ++ t) (past-zero a) (a .one-here) end (omega arith) in
+    let e37 : drop 37 s ≡ p .three ++ (bodyOf p r ++ t) = past-one a ∙ ap (λ (x : List ℕ). x ++ t) (first .is) ∙ append-assoc (p .three) (bodyOf p r) t in
+    let s4 = 37 + length (p .three) in
+    let eb : drop s4 s ≡ bodyOf p (r ++ t) = rest-of s 37 (bodyOf p r ++ t) e37 (w .three) ∙ body-assoc p r t in
+    let o3 = octets-of s 37 (bodyOf p r ++ t) e37 (w .three) in
+    let o4 : sectionAt s s4 ≡ of = octets-of s s4 _ eb (w .four) ∙ sym four in
+    let b = body-on f s end s4 37 s4 of p (r ++ t) o4 o3 w eb (omega arith) in
     let up = b .up-to in
-    let rec = cuts-on f s end s4 of o4 t s3 (b .next) (p .three) (first .later) r o3 (first .cuts) (b .from) (omega arith) in
-    let h1 = held-of s 16 (a .one) (a .cuts ++ t) e16 1 (a .one-here) in
-    let e8 : drop end s ≡ t =
-    ap (λ (n : ℕ). drop n s) (at-end end s3 (length (a .cuts)) (omega arith))
-    ∙ sym (drop-drop s s3 (length (a .cuts))) ∙ ap (drop (length (a .cuts))) e37' ∙ drop-append (a .cuts) t in
-    let z8 : Stands s end t = record { after = []; from = e8 ∙ sym (append-nil t) } in
-    let count : length (map (partsAt s) (b .c ∷ rec .cs)) ≡ length (b .c ∷ rec .cs) = length-map (b .c ∷ rec .cs) (partsAt s) in
+    let rec = cuts-on f s end s4 of o4 t 37 (b .next) (p .three) (first .later) r o3 (first .cuts) (b .from) (omega arith) in
+    let there : end ≡ 37 + length (a .cuts) = omega arith in
+    let z0 : Lies s 0 (a .zero) = record { after = a .one ++ (a .cuts ++ t); from = a .is } in
+    let z1 : Lies s 16 (a .one) = record { after = a .cuts ++ t; from = past-zero a } in
+    let z8 : Lies s end t = record { after = []; from = ap (λ (n : ℕ). drop n s) there ∙ past-cuts a ∙ sym (append-nil t) } in
     let are : map (partsAt s) (b .c ∷ rec .cs) ≡ ps = (λ i. b .are i ∷ rec .are i) ∙ sym (first .are) in
+    let count = length-map (b .c ∷ rec .cs) (partsAt s) in
     let same : length (map (partsAt s) (b .c ∷ rec .cs)) ≡ length ps = ap length are in
-    let few = a .few in
+    let few = file .few in
     record {
       cs = b .c ∷ rec .cs;
       accepted =
           record {
             small = omega arith;
-            large = a .large;
-            zero = rules-same s 0 (a .zero) z0 16 (omega arith) (rules0 (length s)) (reach0 (length s)) ∙ a .zero-is;
+            large = file .large;
+            zero =
+                rules-same s 0 (a .zero) z0 16 (omega arith) (rules0 (length s)) (reach0 (length s))
+                ∙ subst (λ (n : ℕ). Meets (a .zero) 0 (rules0 n)) (file .total) (a .zero-is);
             past =
                 record {
-                  s3 = s3;
+                  s3 = 37;
                   s4 = s4;
                   next = b .next;
                   cut = b .c;
                   later = rec .cs;
                   one =
                       record {
-                        here = section-of s 16 (a .one) (a .cuts ++ t) e16 1 (a .one-here) end (omega arith);
-                        long = h1 .long ∙ a .one-long;
-                        rules = rules-same s 16 (a .one) (h1 .stands) 21 (omega arith) rules1 reach1 ∙ a .one-is;
+                        here = subst (Section s end 1 16) (ap (λ (n : ℕ). 16 + n) (a .one-long)) one-here;
+                        long = long-of s 16 (a .cuts ++ t) (past-zero a) (a .one-here) ∙ a .one-long;
+                        rules = rules-same s 16 (a .one) z1 21 (omega arith) rules1 reach1 ∙ a .one-is;
                       };
-                  three = three;
+                  three = section-of s 37 (bodyOf p r ++ t) e37 (w .three) end (omega arith);
                   three-is = subst (f .Three) (sym o3) (w .three-is);
                   body = b .body;
                   cuts = rec .cuts;
                   few = omega arith;
-                  eight = rules-same s end t z8 4 (omega arith) rules8 reach8 ∙ a .eight-is;
+                  eight = rules-same s end t z8 4 (omega arith) rules8 reach8 ∙ file .eight-is;
                   are = refl;
                 };
           };
       are = are;
     }
-  where
-    at-end : (e a n : ℕ) → e ≡ a + n → e ≡ a + n
-    at-end e a n h = h
-
--- sections 0 and 1 of a file
-module _ (f : Kinds) (s : List ℕ) (ps : List Parts) (a : File f s ps) where
-  pub zero-is : take 16 s ≡ a .zero
-  zero-is = ap (λ (n : ℕ). take n s) (sym (a .zero-long)) ∙ ap (take (length (a .zero))) (a .is) ∙ take-append (a .zero) (a .one ++ (a .cuts ++ a .eight))
-
-  pub one-is : sectionAt s 16 ≡ a .one
-  one-is =
-      octets-of s 16 (a .one) (a .cuts ++ a .eight)
-      (ap (λ (n : ℕ). drop n s) (sym (a .zero-long)) ∙ ap (drop (length (a .zero))) (a .is) ∙ drop-append (a .zero) (a .one ++ (a .cuts ++ a .eight)))
-      1 (a .one-here)

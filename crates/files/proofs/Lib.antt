@@ -1,6 +1,9 @@
-pub mod Held
+pub mod Section
+pub mod Leading
 pub mod ToFile
 pub mod FromFile
+pub mod Each
 pub mod Total
 pub mod Smaller
 pub mod Rescue
+pub mod Examples

@@ -1,19 +1,21 @@
 -- Wishes 8 and 13 over octets: a file assembled from cuts that stood in another is a file with just these cuts.
-use Prim.Native.Nat.{ℕ, zero, _+_, _/_, _%_, _^_, _≤_, _<_}
-use mathlib.Core.Path.{_≡_, refl, sym, _∙_, ap, subst}
+use Prim.Native.Nat.{ℕ, _+_, _/_, _%_, _^_, _≤_, _<_}
+use mathlib.Core.Path.{_≡_, refl, sym, _∙_, subst}
 use mathlib.Core.List.{List, [], _∷_, _++_}
 use mathlib.Core.Bool.{Bool, true, false, cond}
 use native.Mathlib.Omega.{arith}
 use lib.Dec.{eqb}
-use Rattle.octets.specs.Octets.{be}
-use lib.ListN.{length, length-append}
-use Rattle.rules.specs.Rules.{field, meets, meetsAll, rules0, rules1, rules8}
-use Rattle.values.specs.Table.{same}
-use Rattle.values.proofs.Octets.{same-eq, same-refl}
+use lib.ListN.{length, take, length-append, length-take}
+use Rattle.octets.specs.Octets.{be, same}
+use Rattle.octets.proofs.Same.{same-eq, same-refl}
+use Rattle.octets.proofs.Written.{written-length}
+use Rattle.rules.specs.Rules.{field, meets, meetsAll, rules0, rules8}
 use Rattle.sections.specs.Accepted.{Meets, Kinds}
-use Rattle.files.specs.File.{Is, Parts, Whole, Cuts, none, own, shared, File, firstFour, bodyOf}
-use Rattle.files.specs.Smaller.{chosen, cutsAfter, totalled, assembled}
-use Rattle.files.proofs.Total.{totalled-long, totalled-is}
+use Rattle.files.specs.File.{Parts, Whole, Cuts, none, own, shared, Leading, File, firstFour, bodyOf, totalIn}
+use Rattle.files.specs.Smaller.{chosen, cutsAfter, totalled, sevens, assembled}
+use Rattle.files.proofs.Leading.{size-of}
+use Rattle.files.proofs.Each.{Each, of-none, of-one, each-of}
+use Rattle.files.proofs.Total.{totalled-long, total-is, totalled-is}
 use Rattle.files.proofs.FromFile.{body-length}
 
 -- any cut's section 4 may be the first
@@ -39,26 +41,16 @@ some-few qs ps nil = omega arith
 some-few qs ps (take-it {qs = q} {ps = p} r) = let h = some-few q p r in omega arith
 some-few qs ps (leave-it {ps = p} r) = let h = some-few qs p r in omega arith
 
--- each of the cuts is whole
-pub data Each (f : Kinds) (first : List ℕ) : List Parts → Type 0 where
-  nil : Each f first []
-  one : {p : Parts} {ps : List Parts} → Whole f first p → Each f first ps → Each f first (p ∷ ps)
-
 module _ (f : Kinds) (first : List ℕ) where
-  pub each-of : (s3 : List ℕ) (ps : List Parts) (rest : List ℕ) → Cuts f first s3 ps rest → Each f first ps
-  each-of s3 ps rest none = nil
-  each-of s3 ps rest (own {rest = r} {p = p} {ps = qs} w c) = one w (each-of (p .three) qs r c)
-  each-of s3 ps rest (shared {rest = r} {p = p} {ps = qs} w c) = one w (each-of (p .three) qs r c)
-
   pub each-some : (qs ps : List Parts) → Some qs ps → Each f first ps → Each f first qs
-  each-some qs ps nil e = nil
-  each-some qs ps (take-it {qs = q} {ps = p} r) (one w e) = one w (each-some q p r e)
-  each-some qs ps (leave-it {ps = p} r) (one w e) = each-some qs p r e
+  each-some qs ps nil e = of-none
+  each-some qs ps (take-it {qs = q} {ps = p} r) (of-one w e) = of-one w (each-some q p r e)
+  each-some qs ps (leave-it {ps = p} r) (of-one w e) = each-some qs p r e
 
   -- written one after the other, they are cuts
   pub written-cuts : (s3 : List ℕ) (ps : List Parts) → Each f first ps → Cuts f first s3 ps (cutsAfter s3 ps)
-  written-cuts s3 ps nil = none
-  written-cuts s3 ps (one {p = p} {ps = qs} w e) = go (same s3 (p .three)) refl (written-cuts (p .three) qs e)
+  written-cuts s3 ps of-none = none
+  written-cuts s3 ps (of-one {p = p} {ps = qs} w e) = go (same s3 (p .three)) refl (written-cuts (p .three) qs e)
     where
       go : (b : Bool) → same s3 (p .three) ≡ b → Cuts f first (p .three) qs (cutsAfter (p .three) qs)
           → Cuts f first s3 (p ∷ qs) (cond b (bodyOf p (cutsAfter (p .three) qs)) (p .three ++ bodyOf p (cutsAfter (p .three) qs)))
@@ -139,70 +131,101 @@ other-first f reg first p q a b =
     }
 
 all-first : (f : Kinds) → Regular f → (first : List ℕ) (p : Parts) (qs : List Parts) → Whole f first p → Each f first qs → Each f (p .four) qs
-all-first f reg first p qs a nil = nil
-all-first f reg first p qs a (one {p = q} {ps = rs} b e) = one (other-first f reg first p q a b) (all-first f reg first p rs a e)
+all-first f reg first p qs a of-none = of-none
+all-first f reg first p qs a (of-one {p = q} {ps = rs} b e) = of-one (other-first f reg first p q a b) (all-first f reg first p rs a e)
 
 own-first : (f : Kinds) → Regular f → (first : List ℕ) (qs : List Parts) → Each f first qs → Each f (firstFour qs) qs
-own-first f reg first qs nil = nil
-own-first f reg first qs (one {p = p} {ps = rs} a e) = one (other-first f reg first p p a a) (all-first f reg first p rs a e)
+own-first f reg first qs of-none = of-none
+own-first f reg first qs (of-one {p = p} {ps = rs} a e) = of-one (other-first f reg first p p a a) (all-first f reg first p rs a e)
 
 -- ── the file ──
-
-abbrev sevens : List ℕ
-sevens = 0x37 ∷ 0x37 ∷ 0x37 ∷ 0x37 ∷ []
 
 sevens-are : Meets sevens 0 rules8
 unfolding rules8 meetsAll meets field be
 sevens-are = refl
 
--- section 0 of any total, section 1, any cuts: assembled, they are a file with these cuts (wishes 8 and 13)
-pub assembled-file : (f : Kinds) (s0 s1 cuts : List ℕ) (n : ℕ) (ps : List Parts) → length s0 ≡ 16 → Meets s0 0 (rules0 n) → Is 1 s1 → length s1 ≡ 21
-    → Meets s1 0 rules1 → Cuts f (firstFour ps) [] ps cuts → 1 ≤ length ps → length ps ≤ 64 → length cuts ≤ 8388567
-    → File f (assembled s0 s1 cuts) ps
-assembled-file f s0 s1 cuts n ps l0 m0 i1 l1 m1 c some few le =
-    let total = 16 + (length s1 + (length cuts + 4)) in
+-- sections 0 and 1 and cuts that stand one after the other: assembled, they are a file with these cuts (wishes 8 and 13)
+pub assembled-file : (f : Kinds) (s : List ℕ) (ps : List Parts) (left : List ℕ) (a : Leading f s ps left) → 1 ≤ length ps → length ps ≤ 64
+    → length (a .cuts) ≤ 8388567 → File f (assembled (a .zero) (a .one) (a .cuts)) ps
+assembled-file f s ps left a some few le =
+    let l1 = a .one-long in
+    let total = 16 + (length (a .one) + (length (a .cuts) + 4)) in
     let small : total < 256 ^ 8 = omega arith in
-    let tl = totalled-long s0 l0 n m0 total small in
-    let size : length (assembled s0 s1 cuts) ≡ total =
-    length-append (totalled s0 total) (s1 ++ (cuts ++ sevens))
-    ∙ (λ i. tl i + (length-append s1 (cuts ++ sevens) ∙ ap (λ (k : ℕ). length s1 + k) (length-append cuts sevens)) i) in
+    let zero = totalled (a .zero) total in
+    let zero-long = totalled-long (a .zero) (a .zero-long) (totalIn (a .zero)) (a .zero-is) total small in
+    let told = total-is (a .zero) (a .zero-long) (totalIn (a .zero)) (a .zero-is) total small in
+    let leading : Leading f (assembled (a .zero) (a .one) (a .cuts)) ps sevens =
     record {
-      zero = totalled s0 total;
-      one = s1;
-      cuts = cuts;
-      eight = sevens;
+      zero = zero;
+      one = a .one;
+      cuts = a .cuts;
       is = refl;
+      zero-long = zero-long;
+      zero-is =
+          subst (λ (n : ℕ). Meets zero 0 (rules0 n)) (sym told)
+          (totalled-is (a .zero) (a .zero-long) (totalIn (a .zero)) (a .zero-is) total small);
+      one-here = a .one-here;
+      one-long = a .one-long;
+      one-is = a .one-is;
+      cuts-are = a .cuts-are;
+    } in
+    let size = size-of leading in
+    record {
+      eight = sevens;
+      leading = leading;
+      total = told ∙ (omega arith);
       large = omega arith;
-      zero-long = tl;
-      zero-is = subst (λ (k : ℕ). Meets (totalled s0 total) 0 (rules0 k)) (sym size) (totalled-is s0 l0 n m0 total small);
-      one-here = i1;
-      one-long = l1;
-      one-is = m1;
-      cuts-are = c;
       some = some;
       few = few;
       eight-long = refl;
       eight-is = sevens-are;
     }
 
--- WISH 8: the chosen cuts of a file, written after its sections 0 and 1, are a file with just these cuts, and it is no longer
-pub smaller-file : (f : Kinds) → Regular f → (s : List ℕ) (ps qs : List Parts) → (a : File f s ps) → Some qs ps → 1 ≤ length qs
-    → File f (assembled (a .zero) (a .one) (cutsAfter [] qs)) qs
-smaller-file f reg s ps qs a sub some =
-    let few = a .few in
-    let less = some-few qs ps sub in
-    let first = firstFour ps in
-    let e = each-some f first qs ps sub (each-of f first [] ps (a .cuts) (a .cuts-are)) in
-    let short = no-longer f first [] [] qs ps (a .cuts) sub (a .cuts-are) in
-    let size : length s ≡ length (a .zero) + (length (a .one) + (length (a .cuts) + length (a .eight))) =
-    ap length (a .is)
-    ∙ length-append (a .zero) (a .one ++ (a .cuts ++ a .eight))
-    ∙ ap (λ (n : ℕ). length (a .zero) + n) (length-append (a .one) (a .cuts ++ a .eight)
-    ∙ ap (λ (n : ℕ). length (a .one) + n) (length-append (a .cuts) (a .eight))) in
-    let large = a .large in
-    let l0 = a .zero-long in
-    let l1 = a .one-long in
-    let l8 = a .eight-long in
-    let none-due : cost f first [] [] ≡ 0 = rw (same-refl []) in
-    assembled-file f (a .zero) (a .one) (cutsAfter [] qs) (length s) qs (a .zero-long) (a .zero-is) (a .one-here) (a .one-long) (a .one-is)
-    (written-cuts f (firstFour qs) [] qs (own-first f reg first qs e)) some (omega arith) (omega arith)
+module _ (f : Kinds) (s : List ℕ) (ps qs : List Parts) (file : File f s ps) (sub : Some qs ps) where
+  cuts-short : length (cutsAfter [] qs) ≤ length (file .leading .cuts)
+  cuts-short =
+      let a = file .leading in
+      let first = firstFour ps in
+      let short = no-longer f first [] [] qs ps (a .cuts) sub (a .cuts-are) in
+      let none-due : cost f first [] [] ≡ 0 = rw (same-refl []) in
+      omega arith
+
+  -- WISH 8: the chosen cuts of a file, written after its sections 0 and 1, are a file with just these cuts
+  pub smaller-file : Regular f → 1 ≤ length qs → File f (assembled (file .leading .zero) (file .leading .one) (cutsAfter [] qs)) qs
+  smaller-file reg some =
+      let a = file .leading in
+      let first = firstFour ps in
+      let less = some-few qs ps sub in
+      let few = file .few in
+      let e = each-some f first qs ps sub (each-of f first [] ps (a .cuts) (a .cuts-are)) in
+      let short = cuts-short in
+      let size = size-of a in
+      let large = file .large in
+      let l8 = file .eight-long in
+      let made : Leading f (a .zero ++ (a .one ++ (cutsAfter [] qs ++ []))) qs [] =
+      record {
+        zero = a .zero;
+        one = a .one;
+        cuts = cutsAfter [] qs;
+        is = refl;
+        zero-long = a .zero-long;
+        zero-is = a .zero-is;
+        one-here = a .one-here;
+        one-long = a .one-long;
+        one-is = a .one-is;
+        cuts-are = written-cuts f (firstFour qs) [] qs (own-first f reg first qs e);
+      } in
+      assembled-file f _ qs [] made some (omega arith) (omega arith)
+
+  -- and it is no longer than the file
+  pub smaller-short : Regular f → 1 ≤ length qs → length (assembled (file .leading .zero) (file .leading .one) (cutsAfter [] qs)) ≤ length s
+  smaller-short reg some =
+      let made = smaller-file reg some in
+      let size = size-of (file .leading) in
+      let short = cuts-short in
+      let l8 = file .eight-long in
+      let l0 = file .leading .zero-long in
+      let l1 = file .leading .one-long in
+      let w = written-length 8 (16 + (length (file .leading .one) + (length (cutsAfter [] qs) + 4))) in
+      let f8 : length (take 8 (file .leading .zero)) ≡ 8 = length-take 8 (file .leading .zero) ∙ (omega arith) in
+      simp length-append (omega arith)

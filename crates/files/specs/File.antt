@@ -1,12 +1,17 @@
--- A file as its sections one after the other, by their octets alone. (Proved to be what `AcceptedBy` has, in proofs/ToFile.antt and proofs/FromFile.antt.)
+-- A file as its sections one after the other, by their octets alone: document 01, "Sections". (Proved to be what `AcceptedBy` has, in proofs/ToFile.antt
+-- and proofs/FromFile.antt.)
 use Prim.Native.Nat.{ℕ, _+_, _≤_}
 use mathlib.Core.Path.{_≡_}
 use mathlib.Core.List.{List, [], _∷_, _++_}
 use lib.ListN.{length}
-use Rattle.rules.specs.Rules.{rules0, rules1, rules6, rules8}
+use Rattle.rules.specs.Rules.{field, rules0, rules1, rules6, rules8}
 use Rattle.rules.specs.Fields.{lengthAt, numberAt}
 use Rattle.sections.specs.Accepted.{Meets, Kinds, sectionAt}
 use Rattle.sections.specs.declared.Cut.{Cut}
+
+-- the total that section 0 writes
+abbrev pub totalIn : List ℕ → ℕ
+totalIn zero = field zero 0 9 8
 
 -- the octets of a section of number n: 1-4 write how many they are, 5 the number
 pub record Is (n : ℕ) (o : List ℕ) : Type 0 where
@@ -52,7 +57,7 @@ module _ (f : Kinds) where
     pub seven : Is 7 (p .seven)
     pub seven-is : f .Seven (p .three) (p .five) (p .seven)
 
-  -- the octets of cuts, under the section 3 last seen: each is 3 4 5 6 7, or 4 5 6 7 where its section 3 is that one
+  -- the octets of cuts, under the section 3 last seen: a cut is 3 4 5 6 7, or 4 5 6 7 where its section 3 is that one
   pub data Cuts (first : List ℕ) : List ℕ → List Parts → List ℕ → Type 0 where
     none : {s3 : List ℕ} → Cuts first s3 [] []
     own : {s3 rest : List ℕ} {p : Parts} {ps : List Parts}
@@ -60,24 +65,31 @@ module _ (f : Kinds) where
     shared : {rest : List ℕ} {p : Parts} {ps : List Parts}
         → Whole first p → Cuts first (p .three) ps rest → Cuts first (p .three) (p ∷ ps) (bodyOf p rest)
 
+-- the section 4 of the first cut
 abbrev pub firstFour : List Parts → List ℕ
 firstFour [] = []
 firstFour (p ∷ ps) = p .four
 
--- a file and its cuts: 0, 1, then 1 to 64 cuts, then 8. (No section 3 has been seen before the first cut, so that it needs one.)
-pub record File (f : Kinds) (s : List ℕ) (ps : List Parts) : Type 0 where
+-- sections 0 and 1, then these cuts, and what is left. (No section 3 has been seen before the first cut, so that it needs one.)
+pub record Leading (f : Kinds) (s : List ℕ) (ps : List Parts) (left : List ℕ) : Type 0 where
   pub zero : List ℕ
   pub one : List ℕ
   pub cuts : List ℕ
-  pub eight : List ℕ
-  pub is : s ≡ zero ++ (one ++ (cuts ++ eight))
-  pub large : length s ≤ 8388608
+  pub is : s ≡ zero ++ (one ++ (cuts ++ left))
   pub zero-long : length zero ≡ 16
-  pub zero-is : Meets zero 0 (rules0 (length s))
+  -- whatever its total
+  pub zero-is : Meets zero 0 (rules0 (totalIn zero))
   pub one-here : Is 1 one
   pub one-long : length one ≡ 21
   pub one-is : Meets one 0 rules1
   pub cuts-are : Cuts f (firstFour ps) [] ps cuts
+
+-- a file and its cuts: 0 with the file's length, 1, then 1 to 64 cuts, then 8
+pub record File (f : Kinds) (s : List ℕ) (ps : List Parts) : Type 0 where
+  pub eight : List ℕ
+  pub leading : Leading f s ps eight
+  pub total : totalIn (leading .zero) ≡ length s
+  pub large : length s ≤ 8388608
   pub some : 1 ≤ length ps
   pub few : length ps ≤ 64
   pub eight-long : length eight ≡ 4

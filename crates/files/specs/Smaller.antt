@@ -1,10 +1,10 @@
 -- Wish 8, "Send a smaller file", and wish 13, "Rescue a broken download", over octets: files made of cuts that stood in another.
-use Prim.Native.Nat.{ℕ, zero, suc, _+_, _/_, _%_}
+use Prim.Native.Nat.{ℕ, _+_, _/_, _%_}
 use mathlib.Core.List.{List, [], _∷_, _++_}
 use mathlib.Core.Bool.{cond}
 use lib.Dec.{eqb}
 use lib.ListN.{length, take}
-use Rattle.values.specs.Table.{same}
+use Rattle.octets.specs.Octets.{inOctets, same}
 use Rattle.files.specs.File.{Parts, bodyOf}
 
 -- "a 64-bit choice of cuts (bit i for cut i)": those cuts, in order
@@ -18,15 +18,14 @@ cutsAfter s3 [] = []
 cutsAfter s3 (p ∷ ps) =
     cond (same s3 (p .three)) (bodyOf p (cutsAfter (p .three) ps)) (p .three ++ bodyOf p (cutsAfter (p .three) ps))
 
--- n in w octets, most significant first
-unfoldable pub wide : ℕ → ℕ → List ℕ
-wide zero n = []
-wide (suc w) n = wide w (n / 256) ++ (n % 256 ∷ [])
-
 -- "section 0 with its new total"
 abbrev pub totalled : List ℕ → ℕ → List ℕ
-totalled s0 n = take 8 s0 ++ wide 8 n
+totalled s0 n = take 8 s0 ++ inOctets 8 n
+
+-- `7777`
+abbrev pub sevens : List ℕ
+sevens = 0x37 ∷ 0x37 ∷ 0x37 ∷ 0x37 ∷ []
 
 -- section 0 with the new total, section 1, cuts, then `7777`
 abbrev pub assembled : List ℕ → List ℕ → List ℕ → List ℕ
-assembled s0 one cuts = totalled s0 (16 + (length one + (length cuts + 4))) ++ (one ++ (cuts ++ (0x37 ∷ 0x37 ∷ 0x37 ∷ 0x37 ∷ [])))
+assembled s0 one cuts = totalled s0 (16 + (length one + (length cuts + 4))) ++ (one ++ (cuts ++ sevens))

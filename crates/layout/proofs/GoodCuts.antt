@@ -19,7 +19,7 @@ use Rattle.sections.specs.declared.Cut.{Cut}
 use Rattle.sections.specs.declared.Found.{Found}
 use Rattle.sections.specs.declared.Walked.the-variants as W
 use Rattle.sections.proofs.Each.{checked, each-cut, each-found}
-use Rattle.sections.proofs.Held.{Held}
+use Rattle.sections.proofs.There.{AllThere}
 use Rattle.layout.specs.Checks.{ownChecks}
 use Rattle.layout.specs.Parts.{dataAt, productIn, greatestIn}
 use Rattle.layout.specs.Verdict.{verdict}
@@ -28,7 +28,7 @@ use Rattle.layout.specs.Good.{GoodCut}
 use Rattle.layout.proofs.Own.{says}
 
 -- one cut, of the body that starts at `at` under the section 3 at `s3`: by the checks of its sections, which all hold
-good-body : (s : List ℕ) (first s3 at : ℕ) (c : Cut) (next : ℕ) → Held s s3 (sectionAt s s3) → Section3 (sectionAt s s3)
+good-body : (s : List ℕ) (first s3 at : ℕ) (c : Cut) (next : ℕ) → AllThere s s3 → Section3 (sectionAt s s3)
     → Body kinds s (endOf s) first s3 at c next → GoodCut s c
 unfolding rules3 productIn binsIn raysIn greatestIn pointsAt ownChecks
 good-body s first s3 at c next h three b =

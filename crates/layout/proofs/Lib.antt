@@ -1,4 +1,5 @@
-pub mod Same
+pub mod Alike
 pub mod Own
+pub mod First
 pub mod Exact
 pub mod GoodCuts

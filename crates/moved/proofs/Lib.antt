@@ -2,3 +2,5 @@ pub mod Told
 pub mod Calls
 pub mod Opened
 pub mod Wishes
+pub mod DualTold
+pub mod DualCalls

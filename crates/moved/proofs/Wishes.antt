@@ -4,31 +4,29 @@ use mathlib.Core.Path.{_≡_, refl, sym, _∙_, ap, subst}
 use mathlib.Core.List.{List, [], _∷_, map}
 use mathlib.Core.Bool.{Bool, true, false, cond}
 use native.Mathlib.Omega.{arith}
-use native.Mathlib.Nat.{not-suc-le-zero, le-of-suc-le-suc, le-antisymm, add-zero, zero-add}
+use native.Mathlib.Nat.{not-suc-le-zero, le-of-suc-le-suc, add-zero, zero-add}
 use lib.Dec.{eqb}
 use lib.IntN.{ℤ}
 use lib.ListN.{length, getD, take, length-map, List·getD-map}
-use Rattle.rules.specs.Rules.{is, meetsAll, rules4}
-use Rattle.rules.specs.Fields.{parameterAt, siteAt}
-use Rattle.rules.proofs.Bounds.{nth-rule, within-is}
 use Rattle.sections.specs.Accepted.{sectionAt}
 use Rattle.sections.specs.Verdict.{noCut}
 use Rattle.sections.specs.declared.Cut.{Cut}
 use Rattle.layout.specs.Accepted.{kinds, Accepted}
+use Rattle.layout.proofs.First.{regular}
 use Rattle.cuts.specs.Bins.{stretchesIn}
-use Rattle.files.specs.File.{Is, Parts, partsAt, File}
+use Rattle.files.specs.File.{Is, Parts, partsAt, Leading, File}
 use Rattle.files.specs.Smaller.{chosen, cutsAfter, assembled}
-use Rattle.files.specs.Rescue.{Leading}
 use Rattle.files.proofs.ToFile.{file-of}
-use Rattle.files.proofs.FromFile.{of-file, zero-is, one-is}
-use Rattle.files.proofs.Smaller.{Regular, Some, chosen-some, smaller-file}
-use Rattle.files.proofs.Rescue.{rescued-file}
+use Rattle.files.proofs.Leading.{zero-is, one-is}
+use Rattle.files.proofs.FromFile.{of-file}
+use Rattle.files.proofs.Total.{assembled-one}
+use Rattle.files.proofs.Smaller.{Some, chosen-some, assembled-file, smaller-file, smaller-short}
 use Rattle.moved.specs.Told.{stretchesBy}
 use Rattle.moved.specs.Wishes.{countFrom, smallerOf}
 use Rattle.moved.proofs.Told.{told-at}
 use Rattle.polar.specs.Opening.{summaryOf, openAnswer}
 use Rattle.polar.specs.declared.Opened.the-variants as O
-use Rattle.moved.proofs.Opened.{one-same, same-open}
+use Rattle.moved.proofs.Opened.{same-open}
 use Rattle.moved.proofs.Calls.{SameCalls, same-calls}
 
 -- within a list no default counts
@@ -36,16 +34,6 @@ default-free : {A : Type 0} (l : List A) (i : ℕ) (d d' : A) → i < length l �
 default-free [] i d d' lt = absurd (not-suc-le-zero lt)
 default-free (p ∷ l) zero d d' lt = refl
 default-free (p ∷ l) (suc i) d d' lt = default-free l i d d' (le-of-suc-le-suc lt)
-
-pub regular : Regular kinds
-unfolding rules4 parameterAt siteAt
-regular first s3 a s3' b ka kb =
-    let r = rules4 (parameterAt first 0) (siteAt first 0) in
-    let x = within-is a 0 11 1 (parameterAt first 0) (parameterAt first 0) (nth-rule a 0 r (is 0 0 0) (ka .rules) 9 (omega arith)) in
-    let y = within-is a 0 29 2 (siteAt first 0) (siteAt first 0) (nth-rule a 0 r (is 0 0 0) (ka .rules) 10 (omega arith)) in
-    let ep : parameterAt first 0 ≡ parameterAt a 0 = le-antisymm (x .0) (x .1) in
-    let es : siteAt first 0 ≡ siteAt a 0 = le-antisymm (y .0) (y .1) in
-    record { long = kb .long; rules = subst (λ q. meetsAll b 0 q ≡ true) (λ i. rules4 (ep i) (es i)) (kb .rules) }
 
 -- ── wish 8 ──
 
@@ -85,6 +73,7 @@ numbers-few w k (suc n) i lt = go (eqb (w % 2) 1) i lt (λ i h. numbers-few (w /
 pub record Smaller (s : List ℕ) (cs : List Cut) (w : ℕ) (t : List ℕ) : Type 0 where
   pub ds : List Cut
   pub accepted : Accepted t ds
+  pub no-longer : length t ≤ length s
   pub count : length ds ≡ length (chosen w (countFrom 0 (length cs)))
   pub opens : openAnswer t ≡ O.File (summaryOf s (length ds) (getD cs 0 noCut))
   pub calls : (i : ℕ) → i < length ds → SameCalls t i s (getD (chosen w (countFrom 0 (length cs))) i 0)
@@ -101,10 +90,10 @@ smaller s cs w a some =
     let sub : Some qs ps = subst (λ (x : List Parts). Some x ps) (chosen-map (partsAt s) w cs) (chosen-some w ps) in
     let n = length-map few (partsAt s) in
     let t = smallerOf s cs w in
-    let made : File kinds t qs =
-    subst (λ (x : List ℕ). File kinds x qs)
-    (λ i. assembled (sym (zero-is kinds s ps file) i) (sym (one-is kinds s ps file) i) (cutsAfter [] qs))
-    (smaller-file kinds regular s ps qs file sub (omega arith)) in
+    let same-file : assembled (file .leading .zero) (file .leading .one) (cutsAfter [] qs) ≡ t =
+    (λ i. assembled (sym (zero-is (file .leading)) i) (sym (one-is (file .leading)) i) (cutsAfter [] qs)) in
+    let made : File kinds t qs = subst (λ (x : List ℕ). File kinds x qs) same-file
+    (smaller-file kinds s ps qs file sub regular (omega arith)) in
     let k = of-file kinds t qs made in
     let ds = k .cs in
     let same : length few ≡ length numbers = ap length chose ∙ length-map numbers (λ j. getD cs j noCut) in
@@ -124,10 +113,12 @@ smaller s cs w a some =
     record {
       ds = ds;
       accepted = k .accepted;
+      no-longer = subst (λ (x : List ℕ). length x ≤ length s) same-file (smaller-short kinds s ps qs file sub regular (omega arith));
       count = count;
       opens =
           same-open s t cs ds a (k .accepted) (getD numbers 0 0) (omega arith) (let x = numbers-few w 0 (length cs) 0 (omega arith) in omega arith) (here 0 (omega arith))
-          (one-same (take 16 s) (sectionAt s 16) _ _ (ap length (zero-is kinds s ps file) ∙ file .zero-long) (subst (Is 1) (sym (one-is kinds s ps file)) (file .one-here)));
+          (assembled-one (take 16 s) (sectionAt s 16) (cutsAfter [] qs) (ap length (zero-is (file .leading)) ∙ file .leading .zero-long)
+          (subst (Is 1) (sym (one-is (file .leading))) (file .leading .one-here)));
       calls =
           λ i lt.
           let x = numbers-few w 0 (length cs) i (omega arith) in
@@ -147,7 +138,7 @@ pub rescued : (s : List ℕ) (ps : List Parts) (left : List ℕ) (a : Leading ki
     → Rescued ps (assembled (a .zero) (a .one) (a .cuts))
 rescued s ps left a some few small =
     let t = assembled (a .zero) (a .one) (a .cuts) in
-    let k = of-file kinds t ps (rescued-file kinds s ps left a some few small) in
+    let k = of-file kinds t ps (assembled-file kinds s ps left a some few small) in
     record {
       ds = k .cs;
       accepted = k .accepted;

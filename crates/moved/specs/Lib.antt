@@ -1,2 +1,3 @@
 pub mod Told
 pub mod Wishes
+pub mod DualTold

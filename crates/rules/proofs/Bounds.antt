@@ -4,8 +4,8 @@ use mathlib.Core.Path.{_≡_}
 use mathlib.Core.List.{List, [], _∷_, _++_}
 use mathlib.Core.Bool.{true}
 use native.Mathlib.Omega.{arith}
-use native.Mathlib.Nat.{not-suc-le-zero, le-of-suc-le-suc, mul-le-mul}
-use borrow.Author.Tests.{leb-true}
+use native.Mathlib.Nat.{not-suc-le-zero, le-of-suc-le-suc, le-antisymm, mul-le-mul}
+use borrow.Author.Tests.{leb-true, le-leb}
 use lib.ListN.{length, getD}
 use lib.Dec.{leb}
 use Rattle.rules.specs.Rules.{Rule, within, is, field, meets, meetsAll, gridRules, rules4, rules5}
@@ -24,6 +24,14 @@ unfolding meets
 within-is s at k w lo hi h =
     let e = and-true-both (leb lo (field s at k w)) (leb (field s at k w) hi) h in
     (leb-true _ _ (e .0), leb-true _ _ (e .1))
+
+-- a rule of one number alone
+pub is-exactly : (s : List ℕ) (at k w v : ℕ) → meets s at (is k w v) ≡ true → field s at k w ≡ v
+is-exactly s at k w v h = let e = within-is s at k w v v h in le-antisymm (e .1) (e .0)
+
+pub exactly-is : (s : List ℕ) (at k w v : ℕ) → field s at k w ≡ v → meets s at (is k w v) ≡ true
+unfolding meets
+exactly-is s at k w v e = rw (e, le-leb v v (omega arith))
 
 module _ (s : List ℕ) (at : ℕ) where
   -- section 3, whatever its template: Nb from 1 to 2048, Nr from 1 to 1024, and so at most 2,097,152 points

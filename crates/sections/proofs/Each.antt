@@ -13,7 +13,7 @@ use Rattle.sections.specs.Accepted.{Kinds, Body, Cuts, none, own, shared
 use Rattle.sections.specs.declared.Cut.{Cut}
 use Rattle.sections.specs.declared.Found.{Found}
 use Rattle.sections.specs.declared.Walked.the-variants as W
-use Rattle.sections.proofs.Held.{Held, Known, held-at}
+use Rattle.sections.proofs.There.{AllThere, Known, there}
 use Rattle.sections.proofs.Own.{Says}
 use Rattle.sections.proofs.Exact.{accepted-only}
 
@@ -33,34 +33,30 @@ pub record Checked (o : Own) (s : List ℕ) (x : Context) (s7 : ℕ) : Type 0 wh
 abbrev pub contextFor : ℕ → ℕ → ℕ → ℕ → Context
 contextFor first s3 s4 s5 = record { previous = 0; cuts = 0; first = first; section3 = s3; section4 = s4; section5 = s5 }
 
-pub checked : (o : Own) (kinds : Kinds) → Says o kinds → (s : List ℕ) (first s3 at : ℕ) (c : Cut) (next : ℕ) → Held s s3 (sectionAt s s3) → kinds .Three (sectionAt s s3)
+pub checked : (o : Own) (kinds : Kinds) → Says o kinds → (s : List ℕ) (first s3 at : ℕ) (c : Cut) (next : ℕ) → AllThere s s3 → kinds .Three (sectionAt s s3)
     → (b : Body kinds s (endOf s) first s3 at c next) → Checked o s (contextFor first s3 at (b .s5)) (b .s7)
 checked o kinds says s first s3 at c next h three b =
     let x = contextFor first s3 at (b .s5) in
-    let end = endOf s in
-    let h5 = held-at s end 5 (b .s5) (b .s6) (omega arith) (b .five) in
-    let h7 = held-at s end 7 (b .s7) next (omega arith) (b .seven) in
-    let n : Known kinds s at s3 =
-    record { held4 = held-at s end 4 at (b .s5) (omega arith) (b .four); long4 = says .four-long _ _ _ (b .four-is); held3 = h; three = three } in
+    let known : Known kinds s at s3 = record { long4 = says .four-long _ _ _ (b .four-is); three = three } in
     record {
-      three = says .of-three s x s3 h three;
-      five = says .of-five s x (b .s5) n h5 (b .five-is);
-      seven = says .of-seven s x (b .s7) at n h5 (b .five-is) h7 (b .seven-is);
+      three = says .three s x s3 h .1 three;
+      five = says .five s x (b .s5) known (there (omega arith) (b .five)) .1 (b .five-is);
+      seven = says .seven s x (b .s7) at known (b .five-is) (there (omega arith) (b .seven)) .1 (b .seven-is);
     }
 
 -- a property of every cut from its section 4 on
 abbrev pub OfBodies : Kinds → List ℕ → (Cut → Type 0) → Type 0
-OfBodies kinds s P = (first s3 at : ℕ) (c : Cut) (next : ℕ) → Held s s3 (sectionAt s s3) → kinds .Three (sectionAt s s3) → Body kinds s (endOf s) first s3 at c next → P c
+OfBodies kinds s P = (first s3 at : ℕ) (c : Cut) (next : ℕ) → AllThere s s3 → kinds .Three (sectionAt s s3) → Body kinds s (endOf s) first s3 at c next → P c
 
 module _ (kinds : Kinds) (s : List ℕ) (P : Cut → Type 0) (of-body : OfBodies kinds s P) where
-  each-later : (first s3 at : ℕ) (cs : List Cut) → Held s s3 (sectionAt s s3) → kinds .Three (sectionAt s s3)
+  each-later : (first s3 at : ℕ) (cs : List Cut) → AllThere s s3 → kinds .Three (sectionAt s s3)
       → Cuts kinds s (endOf s) first s3 at cs
       → (i : ℕ) → i < length cs → P (getD cs i noCut)
   each-later first s3 at cs h three none i lt = absurd (not-suc-le-zero lt)
   each-later first s3 at cs h three (own {b = b} {next = next} {c = c} here mine body r) zero lt =
-      of-body first at b c next (held-at s (endOf s) 3 at b (omega arith) here) mine body
+      of-body first at b c next (there (omega arith) here) mine body
   each-later first s3 at cs h three (own {b = b} {next = next} {cs = ds} here mine body r) (suc i) lt =
-      each-later first at next ds (held-at s (endOf s) 3 at b (omega arith) here) mine r i (le-of-suc-le-suc lt)
+      each-later first at next ds (there (omega arith) here) mine r i (le-of-suc-le-suc lt)
   each-later first s3 at cs h three (shared {next = next} {c = c} body r) zero lt = of-body first s3 at c next h three body
   each-later first s3 at cs h three (shared {next = next} {cs = ds} body r) (suc i) lt =
       each-later first s3 next ds h three r i (le-of-suc-le-suc lt)
@@ -68,12 +64,12 @@ module _ (kinds : Kinds) (s : List ℕ) (P : Cut → Type 0) (of-body : OfBodies
   each-past : (cs : List Cut) → PastZero kinds s (endOf s) cs → (i : ℕ) → i < length cs → P (getD cs i noCut)
   each-past cs p i lt = rw (p .are) (go i (rw (p .are) at lt))
     where
-      held : Held s (p .s3) (sectionAt s (p .s3))
-      held = held-at s (endOf s) 3 (p .s3) (p .s4) (omega arith) (p .three)
+      all : AllThere s (p .s3)
+      all = there (omega arith) (p .three)
 
       go : (i : ℕ) → i < length (p .cut ∷ p .later) → P (getD (p .cut ∷ p .later) i noCut)
-      go zero h = of-body (p .s4) (p .s3) (p .s4) (p .cut) (p .next) held (p .three-is) (p .body)
-      go (suc i) h = each-later (p .s4) (p .s3) (p .next) (p .later) held (p .three-is) (p .cuts) i (le-of-suc-le-suc h)
+      go zero h = of-body (p .s4) (p .s3) (p .s4) (p .cut) (p .next) all (p .three-is) (p .body)
+      go (suc i) h = each-later (p .s4) (p .s3) (p .next) (p .later) all (p .three-is) (p .cuts) i (le-of-suc-le-suc h)
 
   pub each-cut : (cs : List Cut) → AcceptedBy kinds s cs → (i : ℕ) → i < length cs → P (getD cs i noCut)
   each-cut cs a i lt = each-past cs (a .past) i lt

@@ -20,7 +20,7 @@ use Rattle.sections.proofs.Framed.{Framed, framed-is, framed-of}
 use Rattle.sections.proofs.Order.{Follow, f01, f13, f34, f45, f56, f67, f73, f74, follow}
 use Rattle.sections.proofs.Faults.{Clean, clean, cleaned, checks-end}
 use Rattle.sections.proofs.Sections.{Rest, stop, step}
-use Rattle.sections.proofs.Held.{Known, long-at, held-at}
+use Rattle.sections.proofs.There.{AllThere, Known, there}
 use Rattle.sections.proofs.Own.{Says, section-of, section1-of, section6-of, own1, own6}
 
 -- a section of number n at a place, passed
@@ -109,16 +109,9 @@ pub record CutsOn (o : Own) (s : List ℕ) (end : ℕ) (seen : List Seen) (at : 
 
 -- what a format says of its sections, and its checks, which ask just that
 module _ (o : Own) (kinds : Kinds) (says : Says o kinds) where
-  -- the section 3 last seen is another
-  under : (s : List ℕ) (end : ℕ) → end ≤ length s → (first s3 at b : ℕ) → Known kinds s first s3 → Section s end 3 at b → kinds .Three (sectionAt s at)
-      → Known kinds s first at
-  under s end inside first s3 at b n h t = record { held4 = n .held4; long4 = n .long4; held3 = held-at s end 3 at b inside h; three = t }
-
-  -- what is known once a section 4 has passed that is compared with itself
-  itself : (s : List ℕ) (end : ℕ) → end ≤ length s → (first s3 at b : ℕ) → Known kinds s first s3 → Section s end 4 at b → 30 ≤ lengthAt s at → Known kinds s at s3
-  itself s end inside first s3 at b n h le =
-      let l = long-at s end 4 at b inside h in
-      record { held4 = held-at s end 4 at b inside h; long4 = omega arith; held3 = n .held3; three = n .three }
+  -- what is known once a section 4 has passed, to compare it with itself
+  itself : (s : List ℕ) (first s3 at : ℕ) → Known kinds s first s3 → AllThere s at → 30 ≤ lengthAt s at → Known kinds s at s3
+  itself s first s3 at n h le = record { long4 = omega arith; three = n .three }
 
   -- ── four of them: a cut from its section 4 on ──
 
@@ -156,13 +149,12 @@ module _ (o : Own) (kinds : Kinds) (says : Says o kinds) where
       let is4 = section-of o s end (contextOf seen at) at 4 (p4 .number) (p4 .frame) in
       let is5 = section-of o s end (contextOf seen4 s5) s5 5 (p5 .number) (p5 .frame) in
       let is7 = section-of o s end (contextOf seen6 s7) s7 7 (p7 .number) (p7 .frame) in
-      let h5 = held-at s end 5 s5 s6 inside is5 in
-      let h7 = held-at s end 7 s7 (s7 + lengthAt s s7) inside is7 in
+      let all4 = there inside is4 in
       let known' : Known kinds s (firstSeen 4 at seen) (lastSeen 3 seen) = rw (ef, e3) known in
-      let self = itself s end inside (firstSeen 4 at seen) (lastSeen 3 seen) at s5 known' is4 (says .long-four s (contextOf seen at) at (p4 .its-own)) in
-      let four = says .four s (contextOf seen at) at known' (self .held4) (p4 .its-own) in
-      let five = says .five s (contextOf seen4 s5) s5 self h5 (p5 .its-own) in
-      let seven = says .seven s (contextOf seen6 s7) s7 at self h5 five h7 (p7 .its-own) in
+      let self = itself s (firstSeen 4 at seen) (lastSeen 3 seen) at known' all4 (says .long-four s (contextOf seen at) at (p4 .its-own)) in
+      let four = says .four s (contextOf seen at) at known' all4 .0 (p4 .its-own) in
+      let five = says .five s (contextOf seen4 s5) s5 self (there inside is5) .0 (p5 .its-own) in
+      let seven = says .seven s (contextOf seen6 s7) s7 at self five (there inside is7) .0 (p7 .its-own) in
       let l4 = p4 .frame .long in
       let l5 = p5 .frame .long in
       let l6 = p6 .frame .long in
@@ -255,8 +247,8 @@ module _ (o : Own) (kinds : Kinds) (says : Says o kinds) where
       let s4 = at + lengthAt s at in
       let seen3 = seenAs 3 at ∷ seen in
       let three = section-of o s end (contextOf seen at) at 3 (p .number) (p .frame) in
-      let three-is = says .three s (contextOf seen at) at (held-at s end 3 at s4 inside three) (p .its-own) in
-      let known' = under s end inside first s3 at s4 known three three-is in
+      let three-is = says .three s (contextOf seen at) at (there inside three) .0 (p .its-own) in
+      let known' : Known kinds s first at = record { long4 = known .long4; three = three-is } in
       let p4 = peel o s end seen3 s4 3 all refl (λ z. omega arith) (p .rest) in
       let b = body-off s end inside first at known' seen3 s4 all (ef s4) refl p4 in
       let lt = fewer s seen at 3 (p .roomy) (p .number) refl in
@@ -324,19 +316,17 @@ module _ (o : Own) (kinds : Kinds) (says : Says o kinds) where
       let seen4 = seenAs 4 at ∷ seen in
       let seen5 = seenAs 5 s5 ∷ seen4 in
       let seen6 = seenAs 6 s6 ∷ seen5 in
-      let h5 = held-at s end 5 s5 s6 inside (b .five) in
-      let h7 = held-at s end 7 s7 next inside (b .seven) in
-      let l4 = long-at s end 4 at s5 inside (b .four) in
+      let all4 = there inside (b .four) in
       let m4 = says .four-long _ _ _ (b .four-is) in
       let known' : Known kinds s (firstSeen 4 at seen) (lastSeen 3 seen) = rw (ef, e3) known in
-      let self = itself s end inside (firstSeen 4 at seen) (lastSeen 3 seen) at s5 known' (b .four) (omega arith) in
+      let self = itself s (firstSeen 4 at seen) (lastSeen 3 seen) at known' all4 (omega arith) in
       let four : kinds .Four (sectionAt s (firstSeen 4 at seen)) (sectionAt s (lastSeen 3 seen)) (sectionAt s at) = rw (ef, e3) (b .four-is) in
       let five : kinds .Five (sectionAt s (lastSeen 3 seen)) (sectionAt s at) (sectionAt s s5) = rw e3 (b .five-is) in
       let seven : kinds .Seven (sectionAt s (lastSeen 3 seen)) (sectionAt s s5) (sectionAt s s7) = rw e3 (b .seven-is) in
-      push s end seen at 4 p s5 all e may (b .four) few (says .of-four s (contextOf seen at) at known' (self .held4) four)
-      (push s end seen4 s5 5 4 s6 all refl refl (b .five) few (says .of-five s (contextOf seen4 s5) s5 self h5 five)
+      push s end seen at 4 p s5 all e may (b .four) few (says .four s (contextOf seen at) at known' all4 .1 four)
+      (push s end seen4 s5 5 4 s6 all refl refl (b .five) few (says .five s (contextOf seen4 s5) s5 self (there inside (b .five)) .1 five)
       (push s end seen5 s6 6 5 s7 all refl refl (b .six .here) few (own6 o s end (contextOf seen5 s6) s6 (b .six))
-      (push s end seen6 s7 7 6 next all refl refl (b .seven) few (says .of-seven s (contextOf seen6 s7) s7 at self h5 five h7 seven) r)))
+      (push s end seen6 s7 7 6 next all refl refl (b .seven) few (says .seven s (contextOf seen6 s7) s7 at self five (there inside (b .seven)) .1 seven) r)))
 
   -- the cuts of a history with one body more
   body-cuts : (first s3 at next : ℕ) (s : List ℕ) (end : ℕ) (seen : List Seen) (c : Cut) (b : Body kinds s end first s3 at c next) → lastSeen 3 seen ≡ s3
@@ -355,12 +345,12 @@ module _ (o : Own) (kinds : Kinds) (says : Says o kinds) where
   cuts-on s end inside first s3 known seen at cs (own {b = s4} {next = next} {c = c} {cs = ds} three three-is b r) eight e7 e3 ef few =
       let seen3 = seenAs 3 at ∷ seen in
       let lt : cutsSeen seen < 64 = omega arith in
-      let known' = under s end inside first s3 at s4 known three three-is in
+      let known' : Known kinds s first at = record { long4 = known .long4; three = three-is } in
       let k = cuts-on s end inside first at known' (afterBody s4 (b .s5) (b .s6) (b .s7) seen3) next ds r eight refl refl (λ d. ef s4) (omega arith) in
       record {
         all = k .all;
         rest =
-            push s end seen at 3 7 s4 (k .all) e7 refl three lt (says .of-three s (contextOf seen at) at (known' .held3) three-is)
+            push s end seen at 3 7 s4 (k .all) e7 refl three lt (says .three s (contextOf seen at) at (there inside three) .1 three-is)
             (body-on s end inside first at known' seen3 s4 c next 3 (k .all) b refl refl (ef s4) refl lt (k .rest));
         all-are =
             k .all-are
@@ -392,12 +382,11 @@ module _ (o : Own) (kinds : Kinds) (says : Says o kinds) where
       let seen3 = seenAs 3 s3 ∷ seen1 in
       let p4 = peel o s end seen3 s4 3 all refl (λ z. omega arith) (p3 .rest) in
       let three = section-of o s end (contextOf seen1 s3) s3 3 (p3 .number) (p3 .frame) in
-      let three-is = says .three s (contextOf seen1 s3) s3 (held-at s end 3 s3 s4 inside three) (p3 .its-own) in
+      let three-is = says .three s (contextOf seen1 s3) s3 (there inside three) .0 (p3 .its-own) in
       let is4 = section-of o s end (contextOf seen3 s4) s4 4 (p4 .number) (p4 .frame) in
-      let l4 = long-at s end 4 s4 (s4 + lengthAt s s4) inside is4 in
+      let all4 = there inside is4 in
       let m4 = says .long-four s (contextOf seen3 s4) s4 (p4 .its-own) in
-      let known : Known kinds s s4 s3 =
-      record { held4 = held-at s end 4 s4 (s4 + lengthAt s s4) inside is4; long4 = omega arith; held3 = held-at s end 3 s3 s4 inside three; three = three-is } in
+      let known : Known kinds s s4 s3 = record { long4 = omega arith; three = three-is } in
       let b = body-off s end inside s4 s3 known seen3 s4 all refl refl p4 in
       let more = b .more in
       let c = cuts-off (suc end) s end inside s4 all s3 known (b .seen') (b .next) (omega arith) (b .inside) (b .seven) (b .same3) (b .same4) (omega arith) (b .rest) in
@@ -428,19 +417,13 @@ module _ (o : Own) (kinds : Kinds) (says : Says o kinds) where
       let seen3 = seenAs 3 s3 ∷ seen1 in
       let len = ap length (w .are) in
       let few = w .few in
-      let known : Known kinds s s4 s3 =
-      record {
-        held4 = held-at s end 4 s4 (b .s5) inside (b .four);
-        long4 = says .four-long _ _ _ (b .four-is);
-        held3 = held-at s end 3 s3 s4 inside (w .three);
-        three = w .three-is;
-      } in
+      let known : Known kinds s s4 s3 = record { long4 = says .four-long _ _ _ (b .four-is); three = w .three-is } in
       let k = cuts-on s end inside s4 s3 known (afterBody s4 (b .s5) (b .s6) (b .s7) seen3) (w .next) (w .later) (w .cuts) (w .eight) refl refl (λ d. refl) (omega arith) in
       record {
         all = k .all;
         rest =
             push s end [] 16 1 0 s3 (k .all) refl refl (w .one .here) (omega arith) (own1 o s end (contextOf [] 16) 16 (w .one))
-            (push s end seen1 s3 3 1 s4 (k .all) refl refl (w .three) (omega arith) (says .of-three s (contextOf seen1 s3) s3 (known .held3) (w .three-is))
+            (push s end seen1 s3 3 1 s4 (k .all) refl refl (w .three) (omega arith) (says .three s (contextOf seen1 s3) s3 (there inside (w .three)) .1 (w .three-is))
             (body-on s end inside s4 s3 known seen3 s4 (w .cut) (w .next) 3 (k .all) b refl refl refl refl (omega arith) (k .rest)));
         all-are = k .all-are ∙ ap (λ (l : List Cut). l ++ w .later) (body-cuts s4 s3 s4 (w .next) s end seen3 (w .cut) b refl) ∙ sym (w .are);
       }

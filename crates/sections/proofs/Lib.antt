@@ -2,8 +2,9 @@ pub mod Framed
 pub mod Order
 pub mod Faults
 pub mod Sections
-pub mod Held
+pub mod There
 pub mod Alike
+pub mod Asks
 pub mod Own
 pub mod Grammar
 pub mod Exact

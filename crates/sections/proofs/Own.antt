@@ -3,6 +3,7 @@
 use Prim.Native.Nat.{ℕ, _+_, _≤_}
 use mathlib.Core.Path.{_≡_, refl}
 use mathlib.Core.List.{List}
+use mathlib.Core.Logic.{_↔_}
 use borrow.Author.Tests.{eqb-true, eq-eqb}
 use lib.ListN.{length}
 use Rattle.rules.specs.Fields.{lengthAt, numberAt}
@@ -10,26 +11,18 @@ use Rattle.sections.specs.Checks.{Context, Own, sectionChecks}
 use Rattle.sections.specs.Accepted.{Kinds, Section, Section1, Section6, sectionAt}
 use Rattle.sections.specs.Refused.{AllHold}
 use Rattle.sections.proofs.Framed.{Framed}
-use Rattle.sections.proofs.Held.{Held, Known}
+use Rattle.sections.proofs.There.{AllThere, Known}
 
--- a format's checks, at the places of sections, ask what the format says of their octets. (Going back, a section 7 is judged after its section 5.)
+-- a format's checks, at the places of sections, ask just what the format says of their octets. (A section 7 is judged after its section 5.)
 pub record Says (own : Own) (k : Kinds) : Type 0 where
-  pub three : (s : List ℕ) (x : Context) (at : ℕ) → Held s at (sectionAt s at) → AllHold (own s x at 3) → k .Three (sectionAt s at)
-  pub four : (s : List ℕ) (x : Context) (at : ℕ) → Known k s (x .first) (x .section3) → Held s at (sectionAt s at) → AllHold (own s x at 4)
-      → k .Four (sectionAt s (x .first)) (sectionAt s (x .section3)) (sectionAt s at)
-  pub five : (s : List ℕ) (x : Context) (at : ℕ) → Known k s (x .section4) (x .section3) → Held s at (sectionAt s at) → AllHold (own s x at 5)
-      → k .Five (sectionAt s (x .section3)) (sectionAt s (x .section4)) (sectionAt s at)
-  pub seven : (s : List ℕ) (x : Context) (at s4 : ℕ) → Known k s s4 (x .section3) → Held s (x .section5) (sectionAt s (x .section5))
-      → k .Five (sectionAt s (x .section3)) (sectionAt s s4) (sectionAt s (x .section5)) → Held s at (sectionAt s at)
-      → AllHold (own s x at 7) → k .Seven (sectionAt s (x .section3)) (sectionAt s (x .section5)) (sectionAt s at)
-  pub of-three : (s : List ℕ) (x : Context) (at : ℕ) → Held s at (sectionAt s at) → k .Three (sectionAt s at) → AllHold (own s x at 3)
-  pub of-four : (s : List ℕ) (x : Context) (at : ℕ) → Known k s (x .first) (x .section3) → Held s at (sectionAt s at)
-      → k .Four (sectionAt s (x .first)) (sectionAt s (x .section3)) (sectionAt s at) → AllHold (own s x at 4)
-  pub of-five : (s : List ℕ) (x : Context) (at : ℕ) → Known k s (x .section4) (x .section3) → Held s at (sectionAt s at)
-      → k .Five (sectionAt s (x .section3)) (sectionAt s (x .section4)) (sectionAt s at) → AllHold (own s x at 5)
-  pub of-seven : (s : List ℕ) (x : Context) (at s4 : ℕ) → Known k s s4 (x .section3) → Held s (x .section5) (sectionAt s (x .section5))
-      → k .Five (sectionAt s (x .section3)) (sectionAt s s4) (sectionAt s (x .section5)) → Held s at (sectionAt s at)
-      → k .Seven (sectionAt s (x .section3)) (sectionAt s (x .section5)) (sectionAt s at) → AllHold (own s x at 7)
+  pub three : (s : List ℕ) (x : Context) (at : ℕ) → AllThere s at → AllHold (own s x at 3) ↔ k .Three (sectionAt s at)
+  pub four : (s : List ℕ) (x : Context) (at : ℕ) → Known k s (x .first) (x .section3) → AllThere s at
+      → AllHold (own s x at 4) ↔ k .Four (sectionAt s (x .first)) (sectionAt s (x .section3)) (sectionAt s at)
+  pub five : (s : List ℕ) (x : Context) (at : ℕ) → Known k s (x .section4) (x .section3) → AllThere s at
+      → AllHold (own s x at 5) ↔ k .Five (sectionAt s (x .section3)) (sectionAt s (x .section4)) (sectionAt s at)
+  pub seven : (s : List ℕ) (x : Context) (at s4 : ℕ) → Known k s s4 (x .section3)
+      → k .Five (sectionAt s (x .section3)) (sectionAt s s4) (sectionAt s (x .section5)) → AllThere s at
+      → AllHold (own s x at 7) ↔ k .Seven (sectionAt s (x .section3)) (sectionAt s (x .section5)) (sectionAt s at)
   -- a section 4 has the octets that later ones are compared with
   pub long-four : (s : List ℕ) (x : Context) (at : ℕ) → AllHold (own s x at 4) → 30 ≤ lengthAt s at
   pub four-long : (first s3 s4 : List ℕ) → k .Four first s3 s4 → 30 ≤ length s4

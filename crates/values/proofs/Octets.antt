@@ -1,7 +1,7 @@
 -- Section 5's table: two octets write a value exactly when the number that they write is its sign and magnitude, and a table is right
 -- from a place on when that pair is and the rest is.
 use mathlib.Core.Path.{_≡_, refl, _∙_, ap, sym}
-use mathlib.Core.Bool.{Bool, true, false, _&&_, cond}
+use mathlib.Core.Bool.{Bool, true, false, false≢true, _&&_, cond}
 use mathlib.Core.List.{List, [], _∷_}
 use Prim.Native.Nat.{ℕ, zero, suc, _+_, _*_, _/_, _%_, _≤_, _<_}
 use native.Mathlib.Numerals.{add-one}
@@ -11,8 +11,10 @@ use lib.IntN.{ℤ, pos}
 use lib.ListN.{length, getD, drop, drop-of-length-le}
 use lib.Seq.{drop-cons}
 use borrow.Author.Tests.{eq-eqb, ne-eqb, eqb-true, eqb-false, ltb-true}
+use Rattle.octets.specs.Octets.{same}
+use Rattle.octets.proofs.Same.{same-eq, same-refl}
 use Rattle.values.specs.Published.{tableOf}
-use Rattle.values.specs.Table.{signMagnitude, pairRight, octetsOf, same, tableOctets, tableRight}
+use Rattle.values.specs.Table.{signMagnitude, pairRight, octetsOf, tableOctets, tableRight}
 use Rattle.values.specs.Row.{Writable}
 use Rattle.values.specs.declared.Product.{Product}
 use Rattle.values.specs.declared.Product.the-variants.{Reflectivity, Velocity}
@@ -36,25 +38,6 @@ pub octets-length : (zs : List ℤ) → length (octetsOf zs) ≡ 2 * length zs
 unfolding octetsOf
 octets-length [] = refl
 octets-length (z ∷ zs) = let e = octets-length zs in omega arith
-
-never : false ≡ true → ⊥
-never e = let z : _≡_ {A = ℕ} 0 1 = cc in omega arith
-
-pub same-eq : (xs ys : List ℕ) → same xs ys ≡ true → xs ≡ ys
-unfolding same
-same-eq [] [] e = refl
-same-eq [] (y ∷ ys) e = absurd (never e)
-same-eq (x ∷ xs) [] e = absurd (never e)
-same-eq (x ∷ xs) (y ∷ ys) e = go (eqb x y) refl e (same-eq xs ys)
-  where
-    go : (a : Bool) → eqb x y ≡ a → a && same xs ys ≡ true → (same xs ys ≡ true → xs ≡ ys) → x ∷ xs ≡ y ∷ ys
-    go true h k rest = ap (λ (z : ℕ). z ∷ xs) (eqb-true x y h) ∙ ap (λ zs. y ∷ zs) (rest k)
-    go false h k rest = absurd (never k)
-
-pub same-refl : (xs : List ℕ) → same xs xs ≡ true
-unfolding same
-same-refl [] = refl
-same-refl (x ∷ xs) = ap (λ (b : Bool). b && same xs xs) (eq-eqb x x refl) ∙ same-refl xs
 
 -- octets of another number are not right
 pub unlike-length : (xs : List ℕ) (zs : List ℤ) → (length xs ≡ 2 * length zs → ⊥) → same xs (octetsOf zs) ≡ false
@@ -113,7 +96,7 @@ writable (z ∷ zs) e k = go (ltb (signMagnitude z) 65536) refl e (writable zs) 
     go : (b : Bool) → ltb (signMagnitude z) 65536 ≡ b → cond b (writableAll zs) false ≡ true → (writableAll zs ≡ true → Writable zs) → Writable (z ∷ zs)
     go true h f rest zero = ltb-true (signMagnitude z) 65536 h
     go true h f rest (suc j) = rest f j
-    go false h f rest j = absurd (never f)
+    go false h f rest j = absurd (false≢true f)
 
 pub tables-writable : (p : Product) → Writable (tableOf p)
 unfolding tableOf signMagnitude

@@ -1,9 +1,10 @@
 -- Section 5's value table, octet for octet (document 01, "Sections" and "Numbers in a file").
 use Prim.Native.Nat.{ℕ, suc, _+_, _/_, _%_}
-use mathlib.Core.Bool.{Bool, true, false, _&&_}
+use mathlib.Core.Bool.{Bool, _&&_}
 use mathlib.Core.List.{List, [], _∷_}
 use lib.Dec.{eqb}
 use lib.IntN.{ℤ, pos, negsuc}
+use Rattle.octets.specs.Octets.{same}
 use Rattle.values.specs.Published.{tableOf}
 use Rattle.values.specs.declared.Product.{Product}
 
@@ -27,13 +28,6 @@ octetsOf (z ∷ zs) = signMagnitude z / 256 ∷ signMagnitude z % 256 ∷ octets
 unfoldable pub tableOctets : Product → List ℕ
 unfolding octetsOf tableOf
 tableOctets p = octetsOf (tableOf p)
-
--- the same octets, as many and each equal
-unfoldable pub same : List ℕ → List ℕ → Bool
-same [] [] = true
-same [] (b ∷ bs) = false
-same (a ∷ xs) [] = false
-same (a ∷ xs) (b ∷ bs) = eqb a b && same xs bs
 
 -- section 5's octets from 18 on are the published table's, octet for octet
 unfoldable pub tableRight : List ℕ → Product → Bool

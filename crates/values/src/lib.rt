@@ -12,7 +12,8 @@ ghost use Rattle.runs.specs.Lent.{placed, between};
 ghost use Rattle.values.specs.Published.{levelCount, published, tableOf};
 ghost use Rattle.values.specs.Reading.{readingOf, markOf, kindOf, KindsBy};
 ghost use Rattle.values.specs.Ray.{marksOf, valuesOf};
-ghost use Rattle.values.specs.Table.{signMagnitude, pairRight, octetsOf, same, tableRight};
+ghost use Rattle.octets.specs.Octets.{same};
+ghost use Rattle.values.specs.Table.{signMagnitude, pairRight, octetsOf, tableRight};
 ghost use Rattle.values.specs.Row.{numberOf, numberedTo, Writable, Bins};
 
 mod tables;
