@@ -1,7 +1,7 @@
 -- Wish 8's words on small cuts: bit i is for cut i; a section 3 is written for the first cut and wherever it differs from the last one written.
 use Prim.Native.Nat.{ℕ}
 use mathlib.Core.Path.{_≡_, refl}
-use mathlib.Core.List.{List, [], _∷_}
+use mathlib.Core.List.{[], _∷_}
 use Rattle.octets.specs.Octets.{inOctets, same}
 use Rattle.files.specs.File.{Parts}
 use Rattle.files.specs.Smaller.{chosen, cutsAfter, assembled}

@@ -1,5 +1,5 @@
 -- A file that is accepted by the places of its sections is a file by their octets: the sections one after the other.
-use Prim.Native.Nat.{ℕ, _+_, _-_, _≤_}
+use Prim.Native.Nat.{ℕ, _-_, _≤_}
 use mathlib.Core.Path.{_≡_, refl, sym, _∙_, ap, subst}
 use mathlib.Core.List.{List, [], _∷_, _++_, map, append-assoc, append-nil}
 use mathlib.Core.Bool.{true}
@@ -14,7 +14,7 @@ use Rattle.sections.specs.Accepted as A
 use Rattle.sections.specs.Accepted.{Meets, Kinds, Body, AcceptedBy, sectionAt}
 use Rattle.sections.specs.declared.Cut.{Cut}
 use Rattle.sections.proofs.There.{lies-at, there, goes-on}
-use Rattle.files.specs.File.{Is, Parts, partsAt, Whole, Cuts, none, own, shared, Leading, File, firstFour, bodyOf, totalIn}
+use Rattle.files.specs.File.{Is, Parts, partsAt, Whole, Cuts, none, own, shared, File, firstFour, bodyOf, totalIn}
 use Rattle.files.proofs.Section.{is-at}
 
 pub body-assoc : (p : Parts) (r t : List ℕ) → bodyOf p r ++ t ≡ bodyOf p (r ++ t)

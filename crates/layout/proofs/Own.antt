@@ -6,8 +6,7 @@ use mathlib.Core.Logic.{_↔_, Iff·trans}
 use native.Mathlib.Omega.{arith}
 use borrow.Author.Tests.{eqb-true, le-leb}
 use lib.Dec.{eqb}
-use lib.ListN.{length, drop}
-use mathlib.Core.Bool.{true}
+use lib.ListN.{drop}
 use Rattle.rules.specs.Rules.{meetsAll, scanRules, rules3, rules4, rules5}
 use Rattle.rules.specs.Fields.{lengthAt, raysAt, pointsAt, parameterAt, siteAt, greatestAt, countAt}
 use Rattle.rules.proofs.Bounds.{points-bound, greatest-bound}
@@ -26,7 +25,7 @@ use Rattle.sections.proofs.Alike.{field-alike, rays-alike, points-alike, parame
 use Rattle.sections.proofs.Asks.{also, alike, equal, lengths, leasts, sure, done, named}
 use Rattle.sections.proofs.Own.{Says}
 use Rattle.sections.proofs.Inside.{either, OwnAt}
-use Rattle.layout.specs.Parts.{productOf, tableAt, dataAt}
+use Rattle.layout.specs.Parts.{productOf}
 use Rattle.layout.specs.Checks.{ownChecks}
 use Rattle.layout.specs.Accepted.{Section3, Section4, Section5, Section7, kinds}
 use Rattle.layout.proofs.Alike.{site-alike, greatest-alike, count-alike, table-alike, data-alike, rules3-alike, rules4-alike, rules5-alike}

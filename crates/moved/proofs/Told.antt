@@ -1,5 +1,5 @@
 -- What a cut of an accepted file says is said by the octets of its sections, wherever they stand.
-use Prim.Native.Nat.{ℕ, _+_, _*_, _≤_, _<_}
+use Prim.Native.Nat.{ℕ, _+_, _*_, _<_}
 use mathlib.Core.Path.{_≡_, ap}
 use mathlib.Core.List.{List, map}
 use native.Mathlib.Omega.{arith}

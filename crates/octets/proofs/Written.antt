@@ -7,7 +7,7 @@ use native.Mathlib.Nat.{pow-suc}
 use lib.ListN.{length, getD, take, length-append}
 use lib.Seq.{getD-at, take-suc}
 use Rattle.octets.specs.Octets.{be, inOctets}
-use Rattle.octets.proofs.Lies.{Lies, be-same}
+use Rattle.octets.proofs.Lies.{be-same}
 
 pub written-length : (w n : ℕ) → length (inOctets w n) ≡ w
 unfolding inOctets
