@@ -69,13 +69,15 @@ numbers-few w k (suc n) i lt = go (eqb (w % 2) 1) i lt (λ i h. numbers-few (w /
     go true (suc i) h f = let x = f i (le-of-suc-le-suc h) in omega arith
     go false i h f = let x = f i h in omega arith
 
--- opened again, it has the product, time and site, and just the chosen cuts, and every call answers of each as it did: it has the stretch list it had
+-- opened again, it has the product, time and site, and just the chosen cuts, octet for octet and in order, and every call answers of each as it did: it has
+-- the stretch list it had
 pub record Smaller (s : List ℕ) (cs : List Cut) (w : ℕ) (t : List ℕ) : Type 0 where
   pub ds : List Cut
   pub accepted : Accepted t ds
   pub no-longer : length t ≤ length s
   pub count : length ds ≡ length (chosen w (countFrom 0 (length cs)))
   pub opens : openAnswer t ≡ O.File (summaryOf s (length ds) (getD cs 0 noCut))
+  pub octets : (i : ℕ) → i < length ds → partsAt t (getD ds i noCut) ≡ partsAt s (getD cs (getD (chosen w (countFrom 0 (length cs))) i 0) noCut)
   pub calls : (i : ℕ) → i < length ds → SameCalls t i s (getD (chosen w (countFrom 0 (length cs))) i 0)
 
 pub smaller : (s : List ℕ) (cs : List Cut) (w : ℕ) → Accepted s cs → 1 ≤ length (chosen w cs) → Smaller s cs w (smallerOf s cs w)
@@ -119,6 +121,7 @@ smaller s cs w a some =
           same-open s t cs ds a (k .accepted) (getD numbers 0 0) (omega arith) (let x = numbers-few w 0 (length cs) 0 (omega arith) in omega arith) (here 0 (omega arith))
           (assembled-one (take 16 s) (sectionAt s 16) (cutsAfter [] qs) (ap length (zero-is (file .leading)) ∙ file .leading .zero-long)
           (subst (Is 1) (sym (one-is (file .leading))) (file .leading .one-here)));
+      octets = here;
       calls =
           λ i lt.
           let x = numbers-few w 0 (length cs) i (omega arith) in
