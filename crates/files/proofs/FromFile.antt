@@ -90,6 +90,15 @@ module _ (f : Kinds) (s : List ℕ) (end : ℕ) where
     pub cuts : A.Cuts f s end first s3 at cs
     pub are : map (partsAt s) cs ≡ ps
 
+  -- a cut put before those that follow it
+  own-on : {first s3 at b3 : ℕ} {p : Parts} {qs : List Parts} {r : List ℕ} → Section s end 3 at b3 → f .Three (sectionAt s at)
+      → (b : BodyOn first at b3 p r) → CutsOn first at (b .next) qs → CutsOn first s3 at (p ∷ qs)
+  own-on here is b c = record { cs = b .c ∷ c .cs; cuts = A.own here is (b .body) (c .cuts); are = (λ i. b .are i ∷ c .are i) }
+
+  shared-on : {first s3 at : ℕ} {p : Parts} {qs : List Parts} {r : List ℕ}
+      → (b : BodyOn first s3 at p r) → CutsOn first s3 (b .next) qs → CutsOn first s3 at (p ∷ qs)
+  shared-on b c = record { cs = b .c ∷ c .cs; cuts = A.shared (b .body) (c .cuts); are = (λ i. b .are i ∷ c .are i) }
+
   cuts-on : (first : ℕ) (of : List ℕ) → sectionAt s first ≡ of → (t : List ℕ) → (s3 at : ℕ) (o3 : List ℕ) (ps : List Parts) (rest : List ℕ)
       → sectionAt s s3 ≡ o3 → Cuts f of o3 ps rest → drop at s ≡ rest ++ t → at + length rest ≡ end → CutsOn first s3 at ps
   cuts-on first of ef t s3 at o3 ps rest e3 none e up =
@@ -106,12 +115,8 @@ module _ (f : Kinds) (s : List ℕ) (end : ℕ) where
       let b = body-on first at b3 of p (r ++ t) ef o w eb (omega arith) in
       let up' = b .up-to in
       let rt = length-append r t in
-      let rec = cuts-on first of ef t at (b .next) (p .three) qs r o c (b .from) (omega arith) in
-      record {
-        cs = b .c ∷ rec .cs;
-        cuts = A.own (section-of s at (bodyOf p r ++ t) e' (w .three) end (omega arith)) (subst (f .Three) (sym o) (w .three-is)) (b .body) (rec .cuts);
-        are = (λ i. b .are i ∷ rec .are i);
-      }
+      own-on (section-of s at (bodyOf p r ++ t) e' (w .three) end (omega arith)) (subst (f .Three) (sym o) (w .three-is)) b
+      (cuts-on first of ef t at (b .next) (p .three) qs r o c (b .from) (omega arith))
   cuts-on first of ef t s3 at o3 ps rest e3 (shared {rest = r} {p = p} {ps = qs} w c) e up =
       let size = body-length p r in
       let eb : drop at s ≡ bodyOf p (r ++ t) = e ∙ body-assoc p r t in
@@ -119,12 +124,7 @@ module _ (f : Kinds) (s : List ℕ) (end : ℕ) where
       let b = body-on first s3 at of p (r ++ t) ef e3 w eb (omega arith) in
       let up' = b .up-to in
       let rt = length-append r t in
-      let rec = cuts-on first of ef t s3 (b .next) (p .three) qs r e3 c (b .from) (omega arith) in
-      record {
-        cs = b .c ∷ rec .cs;
-        cuts = A.shared (b .body) (rec .cuts);
-        are = (λ i. b .are i ∷ rec .are i);
-      }
+      shared-on b (cuts-on first of ef t s3 (b .next) (p .three) qs r e3 c (b .from) (omega arith))
 
 -- cuts under no section 3: the first has one of its own
 record FirstOn (f : Kinds) (first : List ℕ) (ps : List Parts) (rest : List ℕ) : Type 0 where
@@ -151,72 +151,109 @@ pub record AcceptedAs (f : Kinds) (s : List ℕ) (ps : List Parts) : Type 0 wher
   pub accepted : AcceptedBy f s cs
   pub are : map (partsAt s) cs ≡ ps
 
+-- the first cut of a file stands past section 1; then the others
+module _ (f : Kinds) (s : List ℕ) (ps : List Parts) (file : File f s ps) (first : FirstOn f (firstFour ps) ps (file .leading .cuts)) where
+  abbrev fourAt : ℕ
+  fourAt = 37 + length (first .p .three)
+
+  from-three : drop 37 s ≡ first .p .three ++ (bodyOf (first .p) (first .r) ++ file .eight)
+  from-three =
+      past-one (file .leading)
+      ∙ ap (λ (x : List ℕ). x ++ file .eight) (first .is)
+      ∙ append-assoc (first .p .three) (bodyOf (first .p) (first .r)) (file .eight)
+
+  from-four : drop fourAt s ≡ bodyOf (first .p) (first .r ++ file .eight)
+  from-four = rest-of s 37 _ from-three (first .whole .three) ∙ body-assoc (first .p) (first .r) (file .eight)
+
+  third : sectionAt s 37 ≡ first .p .three
+  third = octets-of s 37 _ from-three (first .whole .three)
+
+  fourth : sectionAt s fourAt ≡ firstFour ps
+  fourth = octets-of s fourAt _ from-four (first .whole .four) ∙ sym (ap firstFour (first .are))
+
+  cuts-end : fourAt + length (bodyOf (first .p) (first .r)) ≡ endOf s
+  cuts-end =
+      let size = size-of (file .leading) in
+      let l8 = file .eight-long in
+      let cuts : length (file .leading .cuts) ≡ length (first .p .three) + length (bodyOf (first .p) (first .r)) =
+      ap length (first .is) ∙ length-append (first .p .three) (bodyOf (first .p) (first .r)) in
+      omega arith
+
+  first-cut : BodyOn f s (endOf s) fourAt 37 fourAt (first .p) (first .r ++ file .eight)
+  first-cut =
+      let up = cuts-end in
+      let lb = body-length (first .p) (first .r) in
+      let lt = body-length (first .p) (first .r ++ file .eight) in
+      let rt = length-append (first .r) (file .eight) in
+      body-on f s (endOf s) fourAt 37 fourAt (firstFour ps) (first .p) (first .r ++ file .eight) fourth third (first .whole) from-four (omega arith)
+
+  later-cuts : (b : BodyOn f s (endOf s) fourAt 37 fourAt (first .p) (first .r ++ file .eight)) → CutsOn f s (endOf s) fourAt 37 (b .next) (first .later)
+  later-cuts b =
+      let up = cuts-end in
+      let next = b .up-to in
+      let lb = body-length (first .p) (first .r) in
+      let lt = body-length (first .p) (first .r ++ file .eight) in
+      let rt = length-append (first .r) (file .eight) in
+      cuts-on f s (endOf s) fourAt (firstFour ps) fourth (file .eight) 37 (b .next) (first .p .three) (first .later) (first .r) third (first .cuts) (b .from) (omega arith)
+
+  accepted-as : (b : BodyOn f s (endOf s) fourAt 37 fourAt (first .p) (first .r ++ file .eight)) → CutsOn f s (endOf s) fourAt 37 (b .next) (first .later)
+      → AcceptedAs f s ps
+  accepted-as b c =
+      let a = file .leading in
+      let t = file .eight in
+      let end = endOf s in
+      let l0 = a .zero-long in
+      let l1 = a .one-long in
+      let l8 = file .eight-long in
+      let size = size-of a in
+      let up = cuts-end in
+      let there : end ≡ 37 + length (a .cuts) = omega arith in
+      let one : Section s end 1 16 (16 + length (a .one)) = section-of s 16 (a .cuts ++ t) (past-zero a) (a .one-here) end (omega arith) in
+      let z0 : Lies s 0 (a .zero) = record { after = a .one ++ (a .cuts ++ t); from = a .is } in
+      let z1 : Lies s 16 (a .one) = record { after = a .cuts ++ t; from = past-zero a } in
+      let z8 : Lies s end t = record { after = []; from = ap (λ (n : ℕ). drop n s) there ∙ past-cuts a ∙ sym (append-nil t) } in
+      let are : map (partsAt s) (b .c ∷ c .cs) ≡ ps = (λ i. b .are i ∷ c .are i) ∙ sym (first .are) in
+      let count = length-map (b .c ∷ c .cs) (partsAt s) in
+      let same : length (map (partsAt s) (b .c ∷ c .cs)) ≡ length ps = ap length are in
+      let few = file .few in
+      record {
+        cs = b .c ∷ c .cs;
+        accepted =
+            record {
+              small = omega arith;
+              large = file .large;
+              zero =
+                  rules-same s 0 (a .zero) z0 16 (omega arith) (rules0 (length s)) (reach0 (length s))
+                  ∙ subst (λ (n : ℕ). Meets (a .zero) 0 (rules0 n)) (file .total) (a .zero-is);
+              past =
+                  record {
+                    s3 = 37;
+                    s4 = fourAt;
+                    next = b .next;
+                    cut = b .c;
+                    later = c .cs;
+                    one =
+                        record {
+                          here = subst (Section s end 1 16) (ap (λ (n : ℕ). 16 + n) (a .one-long)) one;
+                          long = long-of s 16 (a .cuts ++ t) (past-zero a) (a .one-here) ∙ a .one-long;
+                          rules = rules-same s 16 (a .one) z1 21 (omega arith) rules1 reach1 ∙ a .one-is;
+                        };
+                    three = section-of s 37 _ from-three (first .whole .three) end (omega arith);
+                    three-is = subst (f .Three) (sym third) (first .whole .three-is);
+                    body = b .body;
+                    cuts = c .cuts;
+                    few = omega arith;
+                    eight = rules-same s end t z8 4 (omega arith) rules8 reach8 ∙ file .eight-is;
+                    are = refl;
+                  };
+            };
+        are = are;
+      }
+
+-- and back: sections one after the other are an accepted file with just these cuts
 pub of-file : (f : Kinds) (s : List ℕ) (ps : List Parts) → File f s ps → AcceptedAs f s ps
 of-file f s ps file =
     let a = file .leading in
-    let t = file .eight in
-    let end = endOf s in
-    let of = firstFour ps in
-    let first = first-on f of [] ps (a .cuts) (a .cuts-are) refl (file .some) in
-    let p = first .p in
-    let w = first .whole in
-    let r = first .r in
-    let four : of ≡ p .four = ap firstFour (first .are) in
-    let l0 = a .zero-long in
-    let l1 = a .one-long in
-    let l8 = file .eight-long in
-    let size = size-of a in
-    let cuts-size : length (a .cuts) ≡ length (p .three) + length (bodyOf p r) = ap length (first .is) ∙ length-append (p .three) (bodyOf p r) in
-    let lb = body-length p r in
-    let lt = body-length p (r ++ t) in
-    let rt = length-append r t in
-    let one-here = section-of s 16 (a .cuts ++ t) (past-zero a) (a .one-here) end (omega arith) in
-    let e37 : drop 37 s ≡ p .three ++ (bodyOf p r ++ t) = past-one a ∙ ap (λ (x : List ℕ). x ++ t) (first .is) ∙ append-assoc (p .three) (bodyOf p r) t in
-    let s4 = 37 + length (p .three) in
-    let eb : drop s4 s ≡ bodyOf p (r ++ t) = rest-of s 37 (bodyOf p r ++ t) e37 (w .three) ∙ body-assoc p r t in
-    let o3 = octets-of s 37 (bodyOf p r ++ t) e37 (w .three) in
-    let o4 : sectionAt s s4 ≡ of = octets-of s s4 _ eb (w .four) ∙ sym four in
-    let b = body-on f s end s4 37 s4 of p (r ++ t) o4 o3 w eb (omega arith) in
-    let up = b .up-to in
-    let rec = cuts-on f s end s4 of o4 t 37 (b .next) (p .three) (first .later) r o3 (first .cuts) (b .from) (omega arith) in
-    let there : end ≡ 37 + length (a .cuts) = omega arith in
-    let z0 : Lies s 0 (a .zero) = record { after = a .one ++ (a .cuts ++ t); from = a .is } in
-    let z1 : Lies s 16 (a .one) = record { after = a .cuts ++ t; from = past-zero a } in
-    let z8 : Lies s end t = record { after = []; from = ap (λ (n : ℕ). drop n s) there ∙ past-cuts a ∙ sym (append-nil t) } in
-    let are : map (partsAt s) (b .c ∷ rec .cs) ≡ ps = (λ i. b .are i ∷ rec .are i) ∙ sym (first .are) in
-    let count = length-map (b .c ∷ rec .cs) (partsAt s) in
-    let same : length (map (partsAt s) (b .c ∷ rec .cs)) ≡ length ps = ap length are in
-    let few = file .few in
-    record {
-      cs = b .c ∷ rec .cs;
-      accepted =
-          record {
-            small = omega arith;
-            large = file .large;
-            zero =
-                rules-same s 0 (a .zero) z0 16 (omega arith) (rules0 (length s)) (reach0 (length s))
-                ∙ subst (λ (n : ℕ). Meets (a .zero) 0 (rules0 n)) (file .total) (a .zero-is);
-            past =
-                record {
-                  s3 = 37;
-                  s4 = s4;
-                  next = b .next;
-                  cut = b .c;
-                  later = rec .cs;
-                  one =
-                      record {
-                        here = subst (Section s end 1 16) (ap (λ (n : ℕ). 16 + n) (a .one-long)) one-here;
-                        long = long-of s 16 (a .cuts ++ t) (past-zero a) (a .one-here) ∙ a .one-long;
-                        rules = rules-same s 16 (a .one) z1 21 (omega arith) rules1 reach1 ∙ a .one-is;
-                      };
-                  three = section-of s 37 (bodyOf p r ++ t) e37 (w .three) end (omega arith);
-                  three-is = subst (f .Three) (sym o3) (w .three-is);
-                  body = b .body;
-                  cuts = rec .cuts;
-                  few = omega arith;
-                  eight = rules-same s end t z8 4 (omega arith) rules8 reach8 ∙ file .eight-is;
-                  are = refl;
-                };
-          };
-      are = are;
-    }
+    let first = first-on f (firstFour ps) [] ps (a .cuts) (a .cuts-are) refl (file .some) in
+    let b = first-cut f s ps file first in
+    accepted-as f s ps file first b (later-cuts f s ps file first b)
