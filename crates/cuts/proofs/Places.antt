@@ -16,15 +16,15 @@ use Rattle.values.specs.declared.Product.{Product}
 use Rattle.values.proofs.Listed.{count-le}
 use Rattle.sections.specs.Parts.{binsIn, raysIn}
 use Rattle.layout.specs.Parts.{dataAt, productIn, greatestIn, levelsIn, levelIn}
-use Rattle.layout.specs.Good.{GoodCut}
+use Rattle.layout.specs.Good.{AnyDataCut, GoodCut}
 use Rattle.sections.specs.declared.Cut.{Cut}
 use Rattle.stretches.specs.Call.{Part, scaleOf, listed, rightPoint}
 use Rattle.cuts.specs.Bins.{binsFrom, rayIn, stretchesIn}
 
-module _ (s : List ℕ) (c : Cut) (g : GoodCut s c) where
-  pub greatest-small : greatestIn s c ≤ 252
-  greatest-small = let few = g .greatest-few in omega (arith, count-le (productIn s c))
+pub greatest-small : (s : List ℕ) (c : Cut) → AnyDataCut s c → greatestIn s c ≤ 252
+greatest-small s c g = let few = g .greatest-few in omega (arith, count-le (productIn s c))
 
+module _ (s : List ℕ) (c : Cut) (g : GoodCut s c) where
   pub data-opens : opens (greatestIn s c) (dataAt s (c .section7)) ≡ true
   data-opens = gives-true (greatestIn s c) (raysIn s c * binsIn s c) (dataAt s (c .section7)) (g .exact) .0
 
@@ -36,7 +36,7 @@ module _ (s : List ℕ) (c : Cut) (g : GoodCut s c) where
   all-bins = all-levels
 
   pub few-bins : raysIn s c * binsIn s c ≤ 2097152
-  few-bins = mul-le-mul (g .rays-few) (g .bins-few)
+  few-bins = mul-le-mul (g .any .rays-few) (g .any .bins-few)
 
 -- a ray of nr rays of nb bins
 pub ray-inside : (ray nr nb : ℕ) → ray < nr → ray * nb + nb ≤ nr * nb
@@ -51,7 +51,7 @@ module _ (s : List ℕ) (c : Cut) (g : GoodCut s c) (v : ℕ) (xs : List ℕ) (e
   pub fill-asks : (from count room : ℕ) → from + count ≤ raysIn s c * binsIn s c → count ≤ room
       → ((v ≤ 253) × (opens v xs ≡ true) × (length (levels v xs) ≤ 2097152)) × ((from ≤ from + count) × (from + count ≤ length (levels v xs)) × (from + count - from ≤ room))
   fill-asks from count room h k =
-      let small = greatest-small s c g in
+      let small = greatest-small s c (g .any) in
       let all = all-levels s c g in
       let few = few-bins s c g in
       rw (ev, ex) ((omega arith, data-opens s c g, omega arith), (omega arith, omega arith, omega arith))
@@ -65,7 +65,7 @@ module _ (s : List ℕ) (c : Cut) (g : GoodCut s c) (v : ℕ) (xs : List ℕ) (e
   module _ (nb ray : ℕ) (eb : nb ≡ binsIn s c) (h : ray < raysIn s c) where
     pub level-asks : (bin : ℕ) → bin < binsIn s c → ((v ≤ 253) × (opens v xs ≡ true) × (length (levels v xs) ≤ 2097152)) × (ray * nb + bin < length (levels v xs))
     level-asks bin k =
-        let small = greatest-small s c g in
+        let small = greatest-small s c (g .any) in
         let all = all-levels s c g in
         let few = few-bins s c g in
         let there = bin-inside ray (raysIn s c) bin (binsIn s c) h k in
@@ -80,9 +80,9 @@ module _ (s : List ℕ) (c : Cut) (g : GoodCut s c) (v : ℕ) (xs : List ℕ) (e
         let all = all-levels s c g in
         let few = few-bins s c g in
         let there = ray-inside ray (raysIn s c) (binsIn s c) h in
-        let some = g .bins-some in
+        let some = g .any .bins-some in
         rw (ev, ex, eb, ep)
-        (record { low = g .greatest-few; opened = data-opens s c g; few = omega arith; some = omega arith; given = omega arith; room-marks = omega arith; room-values = omega arith })
+        (record { low = g .any .greatest-few; opened = data-opens s c g; few = omega arith; some = omega arith; given = omega arith; room-marks = omega arith; room-values = omega arith })
 
     pub ray-gives : between (ray * nb) (ray * nb + nb) (levels v xs) ≡ rayIn s c ray
     unfolding rayIn binsFrom levelsIn
@@ -95,9 +95,9 @@ module _ (s : List ℕ) (c : Cut) (g : GoodCut s c) (v : ℕ) (xs : List ℕ) (e
     pub list-asks : (ray bin : ℕ) → rightPoint (binsIn s c) (raysIn s c) ray bin ≡ true
         → Part v nb nr xs × ((v ≤ levelCount p) × (rightPoint nb nr ray bin ≡ true))
     list-asks ray bin h =
-        let small = greatest-small s c g in
+        let small = greatest-small s c (g .any) in
         rw (ev, ex, eb, er, ep)
-        (record { v-le = omega arith; nb-pos = g .bins-some; nb-le = g .bins-few; nr-le = g .rays-few; given = g .exact }, (g .greatest-few, h))
+        (record { v-le = omega arith; nb-pos = g .any .bins-some; nb-le = g .any .bins-few; nr-le = g .any .rays-few; given = g .exact }, (g .any .greatest-few, h))
 
     pub list-gives : (t z : ℤ) (ray bin : ℕ) → z ≡ t → listed (scaleOf p z) v xs nb nr (ray * nb + bin) ≡ stretchesIn s c t ray bin
     unfolding stretchesIn
@@ -109,4 +109,4 @@ unfolding levelIn levelsIn
 level-few s c g ray bin h k =
     let there = bin-inside ray (raysIn s c) bin (binsIn s c) h k in
     let low = levels-le (greatestIn s c) (dataAt s (c .section7)) (ray * binsIn s c + bin) (omega (arith, all-levels s c g)) in
-    omega (arith, g .greatest-few)
+    omega (arith, g .any .greatest-few)

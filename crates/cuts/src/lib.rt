@@ -12,14 +12,14 @@ ghost use Rattle.values.specs.Published.{levelCount};
 ghost use Rattle.values.specs.Ray.{marksOf, valuesOf};
 ghost use Rattle.sections.specs.Parts.{binsIn, raysIn};
 ghost use Rattle.layout.specs.Parts.{dataAt, productIn, greatestIn, levelIn};
-ghost use Rattle.layout.specs.Good.{GoodCut};
+ghost use Rattle.layout.specs.Good.{AnyDataCut, GoodCut};
 ghost use Rattle.stretches.specs.Call.{answerOf, outOf, rightPoint};
 ghost use Rattle.cuts.specs.Bins.{binsFrom, rayIn, stretchesIn};
 ghost use Rattle.cuts.specs.After.{cutAfter};
 
 // V of a cut.
 pub fn greatest_in(file: &[u8], c: Cut) -> u8
-    requires { ⌜ GoodCut (now file) c ⌝ }
+    requires { ⌜ AnyDataCut (now file) c ⌝ }
     ensures { λ r. ⌜ r ≡ greatestIn (now (file .entry)) c ⌝ }
 {
     rules::field16(file, c.section5, 13) as u8
@@ -27,7 +27,7 @@ pub fn greatest_in(file: &[u8], c: Cut) -> u8
 
 // The data of a cut.
 pub fn data_in(file: &[u8], c: Cut) -> &[u8]
-    requires { ⌜ GoodCut (now file) c ⌝ }
+    requires { ⌜ AnyDataCut (now file) c ⌝ }
     ensures { λ r. ⌜ now r ≡ dataAt (now (file .entry)) (c .section7) ⌝ }
 {
     let at = c.section7;

@@ -42,7 +42,7 @@ module _ (s : List ℕ) (cs : List Cut) (a : Accepted s cs) (i : ℕ) (lt : i < 
   listOf ray bin = stretchesIn s (getD cs i noCut) t ray bin
 
   some-bins : 0 < binsIn s (getD cs i noCut)
-  some-bins = good-accepted s cs a i lt .bins-some
+  some-bins = good-accepted s cs a i lt .any .bins-some
 
   -- ── the list is the list of the longest stretches, and only one list is ──
 

@@ -1,4 +1,4 @@
--- Each cut of an accepted file is good: its section 3, wherever it stands, and its own sections 4 to 7 are those of `Accepted`.
+-- Each cut of an accepted file is good, and each of a file that is accepted but for its data is so but for its data: its section 3, wherever it stands, and its own sections 4 to 7 are those of `Accepted`.
 use Prim.Native.Nat.{ℕ, _*_, _<_}
 use mathlib.Core.Path.{_≡_, sym, subst}
 use mathlib.Core.List.{List}
@@ -20,26 +20,26 @@ use Rattle.sections.specs.declared.Found.{Found}
 use Rattle.sections.specs.declared.Walked.the-variants as W
 use Rattle.sections.proofs.Each.{checked, each-cut, each-found}
 use Rattle.sections.proofs.There.{AllThere}
-use Rattle.layout.specs.Checks.{ownChecks}
+use Rattle.layout.specs.Checks.{ownChecks, anyDataChecks}
 use Rattle.layout.specs.Parts.{dataAt, productIn, greatestIn}
-use Rattle.layout.specs.Verdict.{verdict}
-use Rattle.layout.specs.Accepted.{Section3, kinds, Accepted}
-use Rattle.layout.specs.Good.{GoodCut}
-use Rattle.layout.proofs.Own.{says}
+use Rattle.layout.specs.Verdict.{verdict, anyDataVerdict}
+use Rattle.layout.specs.Accepted.{Section3, kinds, Accepted, anyDataKinds, AcceptedAnyData}
+use Rattle.layout.specs.Good.{AnyDataCut, GoodCut}
+use Rattle.layout.proofs.Own.{says, any-says}
+use Rattle.layout.proofs.AnyData.{body}
 
 -- one cut, of the body that starts at `at` under the section 3 at `s3`: by the checks of its sections, which all hold
-good-body : (s : List ℕ) (first s3 at : ℕ) (c : Cut) (next : ℕ) → AllThere s s3 → Section3 (sectionAt s s3)
-    → Body kinds s (endOf s) first s3 at c next → GoodCut s c
-unfolding rules3 productIn binsIn raysIn greatestIn pointsAt ownChecks
-good-body s first s3 at c next h three b =
-    let k = checked ownChecks kinds says s first s3 at c next h three b in
+any-body : (s : List ℕ) (first s3 at : ℕ) (c : Cut) (next : ℕ) → AllThere s s3 → Section3 (sectionAt s s3)
+    → Body anyDataKinds s (endOf s) first s3 at c next → AnyDataCut s c
+unfolding rules3 productIn binsIn raysIn greatestIn pointsAt ownChecks anyDataChecks
+any-body s first s3 at c next h three b =
+    let k = checked anyDataChecks anyDataKinds any-says s first s3 at c next h three b in
     let bins = bins-bound s s3 50120 scanRules (k .three .1 .0) in
     let rays = rays-bound s s3 50120 scanRules (k .three .1 .0) in
     let up-to = b .seven .up-to in
     let inside = b .seven .inside in
     let v = greatest-bound s (b .s5) (levelCount (productIn s (record { section3 = s3; section4 = at; section5 = b .s5; section7 = b .s7 }))) (k .five .1 .0) in
-    let same : binsAt s s3 * raysAt s s3 ≡ raysAt s s3 * binsAt s s3 = mul-comm (binsAt s s3) (raysAt s s3) in
-    subst (GoodCut s) (sym (b .is))
+    subst (AnyDataCut s) (sym (b .is))
     (record {
       bins-some = bins .0;
       bins-few = bins .1;
@@ -48,13 +48,31 @@ good-body s first s3 at c next h three b =
       greatest-few = v;
       data-some = leb-true _ _ (k .seven .0);
       data-inside = omega arith;
-      exact =
-          subst (λ (n : ℕ). gives (greatestIn s (record { section3 = s3; section4 = at; section5 = b .s5; section7 = b .s7 })) n (dataAt s (b .s7)) ≡ true) same
-          (k .seven .1 .1 .0);
     })
+
+good-body : (s : List ℕ) (first s3 at : ℕ) (c : Cut) (next : ℕ) → AllThere s s3 → Section3 (sectionAt s s3)
+    → Body kinds s (endOf s) first s3 at c next → GoodCut s c
+unfolding binsIn raysIn greatestIn pointsAt ownChecks
+good-body s first s3 at c next h three b =
+    let k = checked ownChecks kinds says s first s3 at c next h three b in
+    let same : binsAt s s3 * raysAt s s3 ≡ raysAt s s3 * binsAt s s3 = mul-comm (binsAt s s3) (raysAt s s3) in
+    let exact =
+    subst (λ (n : ℕ). gives (greatestIn s (record { section3 = s3; section4 = at; section5 = b .s5; section7 = b .s7 })) n (dataAt s (b .s7)) ≡ true) same
+    (k .seven .1 .1 .0) in
+    record {
+      any = any-body s first s3 at c next h three (body s (endOf s) b);
+      exact = subst (λ (d : Cut). gives (greatestIn s d) (raysIn s d * binsIn s d) (dataAt s (d .section7)) ≡ true) (sym (b .is)) exact;
+    }
 
 pub good-accepted : (s : List ℕ) (cs : List Cut) → Accepted s cs → (i : ℕ) → i < length cs → GoodCut s (getD cs i noCut)
 good-accepted s = each-cut kinds s (GoodCut s) (good-body s)
 
 pub good-cut : (s : List ℕ) (i : ℕ) (f : Found) → answerFor i (verdict s) ≡ W.Whole f → i < f .cuts → GoodCut s (f .cut)
 good-cut s = each-found kinds s (GoodCut s) (good-body s) ownChecks says
+
+-- the same but for its data
+pub any-cut : (s : List ℕ) (i : ℕ) (f : Found) → answerFor i (anyDataVerdict s) ≡ W.Whole f → i < f .cuts → AnyDataCut s (f .cut)
+any-cut s = each-found anyDataKinds s (AnyDataCut s) (any-body s) anyDataChecks any-says
+
+pub any-cut-of : (s : List ℕ) (cs : List Cut) → AcceptedAnyData s cs → (i : ℕ) → i < length cs → AnyDataCut s (getD cs i noCut)
+any-cut-of s = each-cut anyDataKinds s (AnyDataCut s) (any-body s)

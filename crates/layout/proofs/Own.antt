@@ -2,10 +2,11 @@
 use Prim.Native.Nat.{ℕ, _+_, _*_, _≤_}
 use mathlib.Core.Path.{_≡_, refl, _∙_, ap}
 use mathlib.Core.List.{List}
+use mathlib.Core.Bool.{true}
 use mathlib.Core.Logic.{_↔_, Iff·trans}
 use native.Mathlib.Omega.{arith}
 use borrow.Author.Tests.{eqb-true, le-leb}
-use lib.Dec.{eqb}
+use lib.Dec.{eqb, leb}
 use lib.ListN.{drop}
 use Rattle.rules.specs.Rules.{meetsAll, scanRules, rules3, rules4, rules5}
 use Rattle.rules.specs.Fields.{lengthAt, raysAt, pointsAt, parameterAt, siteAt, greatestAt, countAt}
@@ -26,8 +27,8 @@ use Rattle.sections.proofs.Asks.{also, alike, equal, lengths, leasts, sure, don
 use Rattle.sections.proofs.Own.{Says}
 use Rattle.sections.proofs.Inside.{either, OwnAt}
 use Rattle.layout.specs.Parts.{productOf}
-use Rattle.layout.specs.Checks.{ownChecks}
-use Rattle.layout.specs.Accepted.{Section3, Section4, Section5, Section7, kinds}
+use Rattle.layout.specs.Checks.{ownChecks, anyDataChecks}
+use Rattle.layout.specs.Accepted.{Section3, Section4, Section5, Section7, kinds, AnyDataSection7, anyDataKinds}
 use Rattle.layout.proofs.Alike.{site-alike, greatest-alike, count-alike, table-alike, data-alike, rules3-alike, rules4-alike, rules5-alike}
 
 three : (s : List ℕ) (x : Context) (at : ℕ) → AllThere s at → AllHold (ownChecks s x at 3) ↔ Section3 (sectionAt s at)
@@ -73,6 +74,14 @@ five s x at n h =
     (λ k. (k .long, (k .rules, (k .points, (k .table, tt)))))
 
 -- section 5 has held V to M, so that it is no more than 252
+low-v : (s : List ℕ) (s3 s4 s5 : ℕ) → Section5 (sectionAt s s3) (sectionAt s s4) (sectionAt s s5) → leb (greatestAt s s5) 253 ≡ true
+low-v s s3 s4 s5 fifth =
+    let product = productOf (parameterAt (sectionAt s s4) 0) in
+    let low = greatest-bound (sectionAt s s5) 0 (levelCount product) (fifth .rules) in
+    let l5 = fifth .long in
+    let v : greatestAt s s5 ≡ greatestAt (sectionAt s s5) 0 = greatest-alike s s5 (omega arith) in
+    le-leb (greatestAt s s5) 253 (omega (arith, count-le product))
+
 seven : (s : List ℕ) (x : Context) (at s4 : ℕ) → Known kinds s s4 (x .section3)
     → Section5 (sectionAt s (x .section3)) (sectionAt s s4) (sectionAt s (x .section5)) → AllThere s at
     → AllHold (ownChecks s x at 7) ↔ Section7 (sectionAt s (x .section3)) (sectionAt s (x .section5)) (sectionAt s at)
@@ -82,15 +91,12 @@ seven s x at s4 n fifth h =
     let o5 = sectionAt s (x .section5) in
     let l3 = n .three .long in
     let l5 = fifth .long in
-    let product = productOf (parameterAt (sectionAt s s4) 0) in
-    let low = greatest-bound o5 0 (levelCount product) (fifth .rules) in
-    let few = count-le product in
     let points = points-alike s (x .section3) (omega arith) in
     let v : greatestAt s (x .section5) ≡ greatestAt o5 0 = greatest-alike s (x .section5) (omega arith) in
     let octets = drop 5 (sectionAt s at) in
     named
     (also (leasts s at h 6 6 6 (omega arith) (omega arith) (λ le. refl)) (λ long.
-    also (sure (le-leb (greatestAt s (x .section5)) 253 (omega arith))) (λ b.
+    also (sure (low-v s (x .section3) s4 (x .section5) fifth)) (λ b.
     also (Iff·trans (alike (λ i. gives (v i) (points i) (data-alike s at h (omega arith) i)))
     (gives-exactly (greatestAt o5 0) (pointsAt o3 0) octets, exactly-gives (greatestAt o5 0) (pointsAt o3 0) octets)) (λ g. done))))
     (λ r. record { long = r .0; bins = r .1 .1 .0 })
@@ -124,3 +130,43 @@ own-at s x at n =
     (either (eqb n 4) at _ _ (refl, (refl, tt))
     (either (eqb n 5) at _ _ (refl, (refl, (refl, (refl, tt))))
     (either (eqb n 7) at _ _ (refl, (refl, (refl, tt))) tt)))
+
+-- ── every check but 8 ──
+
+any-seven : (s : List ℕ) (x : Context) (at s4 : ℕ) → Known anyDataKinds s s4 (x .section3)
+    → Section5 (sectionAt s (x .section3)) (sectionAt s s4) (sectionAt s (x .section5)) → AllThere s at
+    → AllHold (anyDataChecks s x at 7) ↔ AnyDataSection7 (sectionAt s (x .section3)) (sectionAt s (x .section5)) (sectionAt s at)
+unfolding anyDataChecks
+any-seven s x at s4 n fifth h =
+    named
+    (also (leasts s at h 6 6 6 (omega arith) (omega arith) (λ le. refl)) (λ long. also (sure (low-v s (x .section3) s4 (x .section5) fifth)) (λ b. done)))
+    (λ r. record { long = r .0 })
+    (λ k. (k .long, (tt, tt)))
+
+any-four : (s : List ℕ) (x : Context) (at : ℕ) → Known anyDataKinds s (x .first) (x .section3) → AllThere s at
+    → AllHold (ownChecks s x at 4) ↔ Section4 (sectionAt s (x .first)) (sectionAt s (x .section3)) (sectionAt s at)
+any-four s x at n = four s x at (record { long4 = n .long4; three = n .three })
+
+any-five : (s : List ℕ) (x : Context) (at : ℕ) → Known anyDataKinds s (x .section4) (x .section3) → AllThere s at
+    → AllHold (ownChecks s x at 5) ↔ Section5 (sectionAt s (x .section3)) (sectionAt s (x .section4)) (sectionAt s at)
+any-five s x at n = five s x at (record { long4 = n .long4; three = n .three })
+
+pub any-says : Says anyDataChecks anyDataKinds
+unfolding anyDataChecks
+any-says =
+    record {
+      three = three;
+      four = any-four;
+      five = any-five;
+      seven = any-seven;
+      long-four = long-four;
+      four-long = λ first s3 s4 k. let l = k .long in omega arith;
+    }
+
+pub any-few-points : (s : List ℕ) (x : Context) (at : ℕ) → AllHold (anyDataChecks s x at 3) → pointsAt s at ≤ 2097152
+unfolding anyDataChecks
+any-few-points = few-points
+
+pub any-own-at : OwnAt anyDataChecks
+unfolding anyDataChecks
+any-own-at s x at n = either (eqb n 7) at _ _ (refl, (refl, tt)) (own-at s x at n)

@@ -41,3 +41,13 @@ kinds = record { Three = Section3; Four = Section4; Five = Section5; Seven = Sec
 -- an accepted file and its cuts
 abbrev pub Accepted : List ℕ → List Cut → Type 0
 Accepted = AcceptedBy kinds
+
+-- Wish 4: the same where the data may be anything. It differs from `Accepted` in section 7 alone, whose octets need only be there
+pub record AnyDataSection7 (s3 s5 s7 : List ℕ) : Type 0 where
+  pub long : 6 ≤ length s7
+
+abbrev pub anyDataKinds : Kinds
+anyDataKinds = record { Three = Section3; Four = Section4; Five = Section5; Seven = AnyDataSection7 }
+
+abbrev pub AcceptedAnyData : List ℕ → List Cut → Type 0
+AcceptedAnyData = AcceptedBy anyDataKinds

@@ -11,14 +11,19 @@ use Rattle.sections.specs.Parts.{binsIn, raysIn}
 use Rattle.sections.specs.declared.Cut.{Cut}
 use Rattle.layout.specs.Parts.{dataAt, productIn, greatestIn}
 
-pub record GoodCut (s : List ℕ) (c : Cut) : Type 0 where
+-- where the data may be anything
+pub record AnyDataCut (s : List ℕ) (c : Cut) : Type 0 where
   pub bins-some : 1 ≤ binsIn s c
   pub bins-few : binsIn s c ≤ 2048
   pub rays-some : 1 ≤ raysIn s c
   pub rays-few : raysIn s c ≤ 1024
   -- V is a level of the product
   pub greatest-few : greatestIn s c ≤ levelCount (productIn s c)
-  -- the data lies in the file and gives exactly the bins
+  -- the data lies in the file
   pub data-some : 6 ≤ lengthAt s (c .section7)
   pub data-inside : c .section7 + lengthAt s (c .section7) ≤ length s
+
+-- and where it gives exactly the bins
+pub record GoodCut (s : List ℕ) (c : Cut) : Type 0 where
+  pub any : AnyDataCut s c
   pub exact : gives (greatestIn s c) (raysIn s c * binsIn s c) (dataAt s (c .section7)) ≡ true

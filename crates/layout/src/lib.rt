@@ -18,7 +18,7 @@ ghost use Rattle.values.specs.Table.{tableRight};
 ghost use Rattle.sections.specs.Verdict.{firstFault};
 ghost use Rattle.sections.specs.Places.{contextIn};
 ghost use Rattle.layout.specs.Parts.{productOf, tableAt, dataAt, productIn};
-ghost use Rattle.layout.specs.Checks.{checks3, checks4, checks5, rest5, checks7, ownChecks};
+ghost use Rattle.layout.specs.Checks.{checks3, checks4, checks5, rest5, checks7, ownChecks, anyDataChecks7, anyDataChecks};
 
 fn wide16(x: u16) -> u32
     ensures { λ r. ⌜ r ≡ x ⌝ }
@@ -164,6 +164,17 @@ pub fn judge7(s: &[u8], st: State) -> Judged
     Judged::Wrong(FileRefusal::Bins(at))
 }
 
+// The same but for the data.
+pub fn judge_any7(s: &[u8], st: State) -> Judged
+    ensures { λ r. ⌜ r ≡ firstFault (anyDataChecks7 (now (s .entry)) (contextIn st) (st .at)) ⌝ }
+{
+    let at = st.at;
+    let len = rules::field32(s, at, 1);
+    let v = rules::field16(s, st.section5, 13);
+    let low = sections::unless(v <= 253, FileRefusal::BaseOfRuns(at), sections::fine());
+    sections::unless(6 <= len, FileRefusal::Length(at), low)
+}
+
 // The checks of a section of the format's own.
 pub fn judge(s: &[u8], st: State, n: u8) -> Judged
     requires { ⌜ st .at + lengthAt (now s) (st .at) ≤ length (now s) ⌝ }
@@ -183,4 +194,16 @@ pub fn judge(s: &[u8], st: State, n: u8) -> Judged
         return judge7(s, st);
     }
     Judged::Fine
+}
+
+// The same but for the data.
+pub fn judge_any(s: &[u8], st: State, n: u8) -> Judged
+    requires { ⌜ st .at + lengthAt (now s) (st .at) ≤ length (now s) ⌝ }
+    requires { ⌜ (n ≡ 7 → pointsAt (now s) (st .section3) ≤ 2097152) ⌝ }
+    ensures { λ r. ⌜ r ≡ firstFault (anyDataChecks (now (s .entry)) (contextIn st) (st .at) n) ⌝ }
+{
+    if n == 7 {
+        return judge_any7(s, st);
+    }
+    judge(s, st, n)
 }

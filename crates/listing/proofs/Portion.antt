@@ -64,13 +64,13 @@ module _ (s : List ℕ) (c : Cut) (t : ℤ) (g : GoodCut s c) where
   entries-some =
       let ls = levels (greatestIn s c) (dataAt s (c .section7)) in
       let sc = scaleOf (productIn s c) t in
-      let bins : 1 * 1 ≤ raysIn s c * binsIn s c = mul-le-mul (g .rays-some) (g .bins-some) in
+      let bins : 1 * 1 ≤ raysIn s c * binsIn s c = mul-le-mul (g .any .rays-some) (g .any .bins-some) in
       rw (from-start sc (greatestIn s c) (dataAt s (c .section7)) (binsIn s c) (raysIn s c))
       (list-some (starts (kindAt sc ls) (binsIn s c)) (entryAt sc ls (binsIn s c)) (raysIn s c * binsIn s c) (omega arith) (first-starts (kindAt sc ls) (binsIn s c)))
 
   pub first-point : rightPoint (binsIn s c) (raysIn s c) 0 0 ≡ true
   unfolding rightPoint
-  first-point = let b = g .bins-some in let r = g .rays-some in rw (lt-ltb 0 (raysIn s c) (omega arith), lt-ltb 0 (binsIn s c) (omega arith))
+  first-point = let b = g .any .bins-some in let r = g .any .rays-some in rw (lt-ltb 0 (raysIn s c) (omega arith), lt-ltb 0 (binsIn s c) (omega arith))
 
 -- ---- an answer for a list
 
@@ -134,7 +134,7 @@ module _ (s : List ℕ) (c : Cut) (t : ℤ) (g : GoodCut s c) (ray bin room : �
 
   pub rest-right : rightPoint (binsIn s c) (raysIn s c) (A .ray) (A .bin) ≡ true
   unfolding stretchesIn
-  rest-right = next-right (scaleOf (productIn s c) t) (greatestIn s c) (dataAt s (c .section7)) (binsIn s c) (raysIn s c) (record { ray = ray; bin = bin }) room (g .bins-some)
+  rest-right = next-right (scaleOf (productIn s c) t) (greatestIn s c) (dataAt s (c .section7)) (binsIn s c) (raysIn s c) (record { ray = ray; bin = bin }) room (g .any .bins-some)
 
   -- at the last point nothing is left, and before it something is
   pub rest-none : raysIn s c ≤ A .ray → drop (A .count) L ≡ []

@@ -16,7 +16,7 @@ ghost use Rattle.rules.specs.Fields.{lengthAt, pointsAt};
 ghost use Rattle.sections.specs.Checks.{follows, framed, roomForCut, closes, checks1, checks6, sectionChecks, checksAt};
 ghost use Rattle.sections.specs.Verdict.{firstFault, sections, verdictBy, answerFor};
 ghost use Rattle.sections.specs.Places.{contextIn};
-ghost use Rattle.layout.specs.Verdict.{verdict};
+ghost use Rattle.layout.specs.Verdict.{verdict, anyDataVerdict};
 ghost use Rattle.duallayout.specs.Verdict.{verdict as dualVerdict};
 ghost use Rattle.walks.specs.Formats.{ownOf};
 ghost use Rattle.walks.specs.Walk.{past, cutEnded, chosenAfter, Sound, stepOf, endedAs};
@@ -25,6 +25,7 @@ ghost use Rattle.walks.specs.Walk.{past, cutEnded, chosenAfter, Sound, s
 enum Format {
     RunLength,
     DualPolarisation,
+    AnyData, // run-length packed, its data not looked at
 }
 
 enum Step {
@@ -108,6 +109,7 @@ fn judge7(format: Format, s: &[u8], st: State) -> Judged
     match format {
         Format::RunLength => layout::judge7(s, st),
         Format::DualPolarisation => duallayout::judge7(s, st),
+        Format::AnyData => layout::judge_any7(s, st),
     }
 }
 
@@ -120,6 +122,7 @@ fn judge_own(format: Format, s: &[u8], st: State, n: u8) -> Judged
     match format {
         Format::RunLength => layout::judge(s, st, n),
         Format::DualPolarisation => duallayout::judge(s, st, n),
+        Format::AnyData => layout::judge_any(s, st, n),
     }
 }
 
@@ -322,4 +325,11 @@ pub fn walk_dual(s: &[u8], want: usize) -> Walked
     ensures { λ r. ⌜ r ≡ answerFor want (dualVerdict (now (s .entry))) ⌝ }
 {
     walk_as(Format::DualPolarisation, s, want)
+}
+
+// The same as a run-length packed file whose data may be anything.
+pub fn walk_any(s: &[u8], want: usize) -> Walked
+    ensures { λ r. ⌜ r ≡ answerFor want (anyDataVerdict (now (s .entry))) ⌝ }
+{
+    walk_as(Format::AnyData, s, want)
 }
