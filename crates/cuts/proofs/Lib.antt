@@ -1,3 +1,4 @@
 pub mod Places
+pub mod From
 pub mod Rays
 pub mod After

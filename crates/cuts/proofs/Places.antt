@@ -75,14 +75,15 @@ module _ (s : List ℕ) (c : Cut) (g : GoodCut s c) (v : ℕ) (xs : List ℕ) (e
     unfolding levelIn levelsIn
     level-gives bin = rw (ev, ex, eb)
 
-    pub readings-ask : (p : Product) → p ≡ productIn s c → (marks values : ℕ) → binsIn s c ≤ marks → binsIn s c ≤ values → Bins p v (ray * nb) (ray * nb + nb) xs marks values
+    pub readings-ask : (p : Product) → p ≡ productIn s c → (marks values : ℕ) → binsIn s c ≤ marks → binsIn s c ≤ values
+        → Bins p v (ray * nb) (ray * nb + nb) xs marks values × ((ray * nb < ray * nb + nb) × (length (levels v xs) ≤ 2097152))
     readings-ask p ep marks values m n =
         let all = all-levels s c g in
         let few = few-bins s c g in
         let there = ray-inside ray (raysIn s c) (binsIn s c) h in
         let some = g .any .bins-some in
         rw (ev, ex, eb, ep)
-        (record { low = g .any .greatest-few; opened = data-opens s c g; few = omega arith; some = omega arith; given = omega arith; room-marks = omega arith; room-values = omega arith })
+        (record { low = g .any .greatest-few; opened = data-opens s c g; near = omega arith; order = omega arith; given = omega arith; room-marks = omega arith; room-values = omega arith }, (omega arith, omega arith))
 
     pub ray-gives : between (ray * nb) (ray * nb + nb) (levels v xs) ≡ rayIn s c ray
     unfolding rayIn binsFrom levelsIn

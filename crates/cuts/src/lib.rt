@@ -1,13 +1,16 @@
 // One cut of an accepted file, read by the places of its sections: Nb, Nr, V, its data; a ray's levels, a bin's level, its stretches. Every function that
 // reads data asks that the cut is good (specs/Good.antt of `layout`), which the file's checks have shown, and tests nothing again. Below it stand
 // `sections`, `layout`, `runs`, `values` and `stretches`; above it `polar`, whose calls make the checks, and `lister`, which goes over all cuts of a file.
+use index::RayRecord;
 use sections::Cut;
 use stretches::Listing;
+use values::Product;
 ghost use mathlib.Core.Path.{_≡_};
-ghost use mathlib.Core.Bool.{true};
+ghost use mathlib.Core.Bool.{true, cond};
 ghost use Prim.Native.Nat.{_+_, _*_, _≤_, _<_};
 ghost use lib.ListN.{length};
 ghost use Rattle.runs.specs.Lent.{front};
+ghost use Rattle.index.specs.Index.{usable, fromRecord};
 ghost use Rattle.values.specs.Published.{levelCount};
 ghost use Rattle.values.specs.Ray.{marksOf, valuesOf};
 ghost use Rattle.sections.specs.Parts.{binsIn, raysIn};
@@ -15,6 +18,7 @@ ghost use Rattle.layout.specs.Parts.{dataAt, productIn, greatestIn, levelIn};
 ghost use Rattle.layout.specs.Good.{AnyDataCut, GoodCut};
 ghost use Rattle.stretches.specs.Call.{answerOf, outOf, rightPoint};
 ghost use Rattle.cuts.specs.Bins.{binsFrom, rayIn, stretchesIn};
+ghost use Rattle.cuts.specs.Records.{usableIn, rayFrom};
 ghost use Rattle.cuts.specs.After.{cutAfter};
 
 // V of a cut.
@@ -68,6 +72,70 @@ pub fn readings_into(file: &[u8], c: Cut, ray: usize, marks: &mut [u8], values: 
     let v = greatest_in(file, c);
     let product = layout::product_in(file, c);
     values::readings_into(product, data_in(file, c), v, from, from + nb, marks, values)
+}
+
+// The levels that decoding from a record gives, at the front of out; or false, and out as it was, where the record does not fit the data.
+pub fn levels_from(file: &[u8], c: Cut, rec: RayRecord, out: &mut [u8]) -> bool
+    requires { ⌜ AnyDataCut (now file) c ⌝ }
+    requires { ⌜ binsIn (now file) c ≤ length (now out) ⌝ }
+    ensures { λ r. ⌜ r ≡ usableIn (now (file .entry)) c rec ⌝ }
+    ensures { λ r. ⌜ now (out .exit) ≡ cond r (front (rayFrom (now (file .entry)) c rec) (now (out .entry))) (now (out .entry)) ⌝ }
+{
+    let nb = sections::bins_in(file, c);
+    let v = greatest_in(file, c);
+    index::levels_from(data_in(file, c), v, nb, rec, out)
+}
+
+// The readings that decoding data from a record gives. The data is gone over twice: not until its last bin is there is it known that the record fits.
+fn readings_by(
+    product: Product,
+    octets: &[u8],
+    v: u8,
+    nb: usize,
+    rec: RayRecord,
+    marks: &mut [u8],
+    values: &mut [i32],
+) -> bool
+    requires { ⌜ (v ≤ levelCount product) × (nb ≤ 2048) × (nb ≤ length (now marks)) × (nb ≤ length (now values)) ⌝ }
+    ensures { λ r. ⌜ r ≡ usable v nb (now (octets .entry)) rec ⌝ }
+    ensures { λ r. ⌜ now (marks .exit) ≡ cond r (marksOf product (fromRecord v nb (now (octets .entry)) rec) (now (marks .entry))) (now (marks .entry)) ⌝ }
+    ensures { λ r. ⌜ now (values .exit) ≡ cond r (valuesOf product (fromRecord v nb (now (octets .entry)) rec) (now (values .entry))) (now (values .entry)) ⌝ }
+{
+    if index::fits(octets, v, nb, rec) {
+        let at = rec.offset as usize;
+        let before = rec.before as usize;
+        values::readings_from(
+            product,
+            &octets[at..],
+            v,
+            before,
+            before + nb,
+            marks,
+            values,
+        );
+        return true;
+    }
+    false
+}
+
+// The same as readings: marks at the front of `marks`, and numbers in `values`.
+pub fn readings_from(
+    file: &[u8],
+    c: Cut,
+    rec: RayRecord,
+    marks: &mut [u8],
+    values: &mut [i32],
+) -> bool
+    requires { ⌜ AnyDataCut (now file) c ⌝ }
+    requires { ⌜ (binsIn (now file) c ≤ length (now marks)) × (binsIn (now file) c ≤ length (now values)) ⌝ }
+    ensures { λ r. ⌜ r ≡ usableIn (now (file .entry)) c rec ⌝ }
+    ensures { λ r. ⌜ now (marks .exit) ≡ cond r (marksOf (productIn (now (file .entry)) c) (rayFrom (now (file .entry)) c rec) (now (marks .entry))) (now (marks .entry)) ⌝ }
+    ensures { λ r. ⌜ now (values .exit) ≡ cond r (valuesOf (productIn (now (file .entry)) c) (rayFrom (now (file .entry)) c rec) (now (values .entry))) (now (values .entry)) ⌝ }
+{
+    let nb = sections::bins_in(file, c);
+    let v = greatest_in(file, c);
+    let product = layout::product_in(file, c);
+    readings_by(product, data_in(file, c), v, nb, rec, marks, values)
 }
 
 // The level of one bin.

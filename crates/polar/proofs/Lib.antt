@@ -1,3 +1,4 @@
 pub mod OnCut
 pub mod Answering
 pub mod ByVerdict
+pub mod Starts

@@ -4,3 +4,5 @@ pub mod Opening
 pub mod Rays
 pub mod Stretching
 pub mod Reasons
+pub mod Records
+pub mod Building

@@ -6,6 +6,8 @@ use lib.IntN.{ℤ}
 use lib.Ieee.{Float}
 use Rattle.polar.specs.declared.BinAnswer.{BinAnswer}
 use Rattle.polar_c.specs.Runs.{RunCheckCall, RunReadCall, RunWriteCall}
+use Rattle.index.specs.declared.RayRecord.{RayRecord}
+use Rattle.polar_c.specs.Records.{BuildIndexCall, RayLevelsFromCall, RayValuesFromCall}
 use Rattle.polar_c.specs.Files.{Told, BinTold, RayLevelsCall, RayValuesCall, StretchesCall}
 
 pub run-check-one : {v n : ℕ} {octets : List ℕ} {x y : ℕ} → RunCheckCall v n octets x → RunCheckCall v n octets y → x ≡ y
@@ -42,3 +44,18 @@ bin-told-one p q = (p .returned ∙ sym (q .returned), p .held ∙ sym (q .held)
 pub stretches-one : {file : List ℕ} {cut : ℕ} {t : ℤ} {ray bin : ℕ} {lent answer : List ℕ} {x y : ℕ} {l l′ w w′ : List ℕ} →
     StretchesCall file cut t ray bin lent answer x l w → StretchesCall file cut t ray bin lent answer y l′ w′ → (x ≡ y) × (l ≡ l′) × (w ≡ w′)
 stretches-one p q = (p .returned ∙ sym (q .returned), p .held ∙ sym (q .held), p .told ∙ sym (q .told))
+
+-- of index building, and of both ray calls by a record
+pub build-index-one : {file : List ℕ} {cut : ℕ} {lent : List RayRecord} {place : List ℕ} {x y : ℕ} {l l′ : List RayRecord} {w w′ : List ℕ} →
+    BuildIndexCall file cut lent place x l w → BuildIndexCall file cut lent place y l′ w′ → (x ≡ y) × (l ≡ l′) × (w ≡ w′)
+build-index-one p q = (p .returned ∙ sym (q .returned), p .held ∙ sym (q .held), p .told ∙ sym (q .told))
+
+pub ray-levels-from-one : {file : List ℕ} {cut ray offset before : ℕ} {lent place : List ℕ} {x y : ℕ} {l l′ w w′ : List ℕ} →
+    RayLevelsFromCall file cut ray offset before lent place x l w → RayLevelsFromCall file cut ray offset before lent place y l′ w′ → (x ≡ y) × (l ≡ l′) × (w ≡ w′)
+ray-levels-from-one p q = (p .returned ∙ sym (q .returned), p .held ∙ sym (q .held), p .told ∙ sym (q .told))
+
+pub ray-values-from-one : {file : List ℕ} {cut ray offset before : ℕ} {marks : List ℕ} {values : List ℤ} {place : List ℕ} {x y : ℕ} {m m′ : List ℕ} {v v′ : List ℤ} {w w′ : List ℕ} →
+    RayValuesFromCall file cut ray offset before marks values place x m v w → RayValuesFromCall file cut ray offset before marks values place y m′ v′ w′
+    → (x ≡ y) × (m ≡ m′) × (v ≡ v′) × (w ≡ w′)
+ray-values-from-one p q =
+    (p .returned ∙ sym (q .returned), p .marked ∙ sym (q .marked), p .held ∙ sym (q .held), p .told ∙ sym (q .told))

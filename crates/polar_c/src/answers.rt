@@ -4,6 +4,7 @@ ghost use mathlib.Core.List.{[]};
 ghost use lib.Seq.{sets};
 ghost use Rattle.polar_c.specs.Runs.{runReadNumber, runReadWords, runWriteNumber, runWriteWords};
 ghost use Rattle.polar_c.specs.Files.{productNumber, summaryWords, gridWords, openNumber, openWords, elevationWords, infoWords, rayNumber, rayWords, binNumber, binWords, binHeld, stretchNumber, stretchWords};
+ghost use Rattle.polar_c.specs.Records.{fromNumber, fromWords};
 ghost use Rattle.polar_c.specs.Dual.{openNumber as dualOpenNumber, openWords as dualOpenWords};
 use dualpol::DualOpened;
 use packing::RunWrite;
@@ -12,6 +13,7 @@ use polar::CutInfo;
 use polar::Elevation;
 use polar::Opened;
 use polar::RayAnswer;
+use polar::RecordAnswer;
 use polar::StretchAnswer;
 use runs::RunRead;
 use sections::Grid;
@@ -134,7 +136,7 @@ pub fn tell_info(info: CutInfo, answer: &mut [i64; 11])
     tell_elevation(elevation, answer);
 }
 
-// of both ray calls: place
+// of both ray calls and of index building: place
 pub fn tell_ray(told: RayAnswer, place: &mut [u64; 1]) -> u32
     ensures { λ r. ⌜ r ≡ rayNumber told ⌝ }
     ensures { λ r. ⌜ now (place .exit) ≡ rayWords told (now (place .entry)) ⌝ }
@@ -147,6 +149,23 @@ pub fn tell_ray(told: RayAnswer, place: &mut [u64; 1]) -> u32
         RayAnswer::Refused(why) => {
             place[0] = crate::refusals::fill_place(why);
             crate::refusals::fill_number(why)
+        }
+    }
+}
+
+// of both ray calls by a record: place
+pub fn tell_from(told: RecordAnswer, place: &mut [u64; 1]) -> u32
+    ensures { λ r. ⌜ r ≡ fromNumber told ⌝ }
+    ensures { λ r. ⌜ now (place .exit) ≡ fromWords told (now (place .entry)) ⌝ }
+{
+    match told {
+        RecordAnswer::Written => {
+            place[0] = 0;
+            0
+        }
+        RecordAnswer::Refused(why) => {
+            place[0] = crate::refusals::record_place(why);
+            crate::refusals::record_number(why)
         }
     }
 }

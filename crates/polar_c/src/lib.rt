@@ -5,12 +5,14 @@ ghost use mathlib.Core.Path.{_≡_};
 ghost use Rattle.polar.specs.Stretching.{house};
 ghost use Rattle.polar_c.specs.Runs.{RunCheckCall, RunReadCall, RunWriteCall};
 ghost use Rattle.polar_c.specs.Dual.{DualOpenCall, DualCutCall, DualBinCall};
+ghost use Rattle.polar_c.specs.Records.{BuildIndexCall, RayLevelsFromCall, RayValuesFromCall};
 ghost use Rattle.polar_c.specs.Files.{OpenCall, CutCall, RayLevelsCall, RayValuesCall, BinValueCall, StretchesCall};
 
 mod answers;
 mod refusals;
 
 use dualpol::DualCut;
+use index::RayRecord;
 use polar::CutAnswer;
 use runs::RunCheck;
 
@@ -149,6 +151,60 @@ pub extern "C" fn polar_house_stretches(
     ensures { λ r. ⌜ StretchesCall (now (file .entry)) cut house ray bin (now (words .entry)) (now (answer .entry)) r (now (words .exit)) (now (answer .exit)) ⌝ }
 {
     answers::tell_stretches(polar::house_stretches(file, cut, ray, bin, words), answer)
+}
+
+// ---- an index of a cut's rays, and rays by its records
+
+// Build an index: a record for each ray at the front of `records`. Proved by hand: the borrow checker covers no slice of structs.
+#[no_mangle]
+pub extern "C" fn polar_build_index(
+    file: &[u8],
+    cut: usize,
+    records: &mut [RayRecord],
+    place: &mut [u64; 1],
+) -> u32
+    ensures { λ r. ⌜ BuildIndexCall (now (file .entry)) cut (now (records .entry)) (now (place .entry)) r (now (records .exit)) (now (place .exit)) ⌝ }
+{
+    let told = polar::build_index(file, cut, records);
+    answers::tell_ray(told, place)
+}
+
+// Ray levels by a record: Nb levels, of what decoding from there gives, at the front of `levels`.
+#[no_mangle]
+pub extern "C" fn polar_ray_levels_from(
+    file: &[u8],
+    cut: usize,
+    ray: usize,
+    offset: u32,
+    before: u32,
+    levels: &mut [u8],
+    place: &mut [u64; 1],
+) -> u32
+    ensures { λ r. ⌜ RayLevelsFromCall (now (file .entry)) cut ray offset before (now (levels .entry)) (now (place .entry)) r (now (levels .exit)) (now (place .exit)) ⌝ }
+{
+    let rec = RayRecord { offset, before };
+    answers::tell_from(polar::ray_levels_from(file, cut, ray, rec, levels), place)
+}
+
+// Ray values by a record: Nb marks, and the value at each measured place.
+#[no_mangle]
+pub extern "C" fn polar_ray_values_from(
+    file: &[u8],
+    cut: usize,
+    ray: usize,
+    offset: u32,
+    before: u32,
+    marks: &mut [u8],
+    values: &mut [i32],
+    place: &mut [u64; 1],
+) -> u32
+    ensures { λ r. ⌜ RayValuesFromCall (now (file .entry)) cut ray offset before (now (marks .entry)) (now (values .entry)) (now (place .entry)) r (now (marks .exit)) (now (values .exit)) (now (place .exit)) ⌝ }
+{
+    let rec = RayRecord { offset, before };
+    answers::tell_from(
+        polar::ray_values_from(file, cut, ray, rec, marks, values),
+        place,
+    )
 }
 
 // ---- dual-polarisation files

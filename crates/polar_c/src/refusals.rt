@@ -3,10 +3,11 @@ ghost use mathlib.Core.Path.{_≡_};
 ghost use Rattle.runs.specs.Read.{readNumber, readPlace, checkNumber};
 ghost use Rattle.packing.specs.Write.{writeNumber, writePlace};
 ghost use Rattle.sections.specs.Refusal.{placeOf};
-ghost use Rattle.polar.specs.Refusals.{askNumber, askPlace, fillNumber, fillPlace};
+ghost use Rattle.polar.specs.Refusals.{askNumber, askPlace, fillNumber, fillPlace, recordNumber, recordPlace};
 use packing::WriteRefusal;
 use polar::AskRefusal;
 use polar::FillRefusal;
+use polar::RecordRefusal;
 use runs::CheckRefusal;
 use runs::ReadRefusal;
 use sections::FileRefusal;
@@ -106,5 +107,27 @@ pub fn fill_place(why: FillRefusal) -> u64
         FillRefusal::File(refusal) => file_place(refusal),
         FillRefusal::Argument => 0,
         FillRefusal::Room => 0,
+    }
+}
+
+pub fn record_number(why: RecordRefusal) -> u32
+    ensures { λ r. ⌜ r ≡ recordNumber why ⌝ }
+{
+    match why {
+        RecordRefusal::File(refusal) => sections::number_of(refusal),
+        RecordRefusal::Argument => 10,
+        RecordRefusal::Room => 11,
+        RecordRefusal::Record(_) => 13,
+    }
+}
+
+pub fn record_place(why: RecordRefusal) -> u64
+    ensures { λ r. ⌜ r ≡ recordPlace why ⌝ }
+{
+    match why {
+        RecordRefusal::File(refusal) => file_place(refusal),
+        RecordRefusal::Argument => 0,
+        RecordRefusal::Room => 0,
+        RecordRefusal::Record(at) => at as u64,
     }
 }

@@ -6,3 +6,4 @@ pub mod Digits
 pub mod Lent
 pub mod Meaning
 pub mod Calls
+pub mod Upto

@@ -79,7 +79,7 @@ pub enum Step {
 
 // The run at a place. A caller that wants no more than cap bins takes Over for "this run reaches the end".
 pub fn run_at(octets: &[u8], v: u8, at: usize, cap: usize) -> Step
-    requires { ⌜ (v ≤ 253) × (cap ≤ 4294967295) ⌝ }
+    requires { ⌜ (v ≤ 253) × (cap ≤ 1099511627775) ⌝ }
     ensures { λ r. ⌜ r ≡ stepAt v cap (now (octets .entry)) at ⌝ }
 {
     if octets.len() <= at {
@@ -144,6 +144,22 @@ pub fn known_run(octets: &[u8], v: u8, at: usize) -> Known
         }
     }
     Known { len, next: i }
+}
+
+// The run at a level octet, cut off at cap bins: for octets that no scan has looked at, whose runs may be of any length.
+pub fn run_upto(octets: &[u8], v: u8, at: usize, cap: usize) -> Known
+    requires { ⌜ (v ≤ 253) × (cap ≤ 1099511627775) × (at < length (now octets)) × (getD (now octets) at 0 ≤ v) ⌝ }
+    ensures { λ r. ⌜ (r .len ≡ min (runLen v (now (octets .entry)) at) cap) × (runLen v (now (octets .entry)) at ≤ cap → r .next ≡ runNext v (now (octets .entry)) at) ⌝ }
+{
+    let step = run_at(octets, v, at, cap);
+    match step {
+        Step::Run {
+            level: _,
+            len,
+            next,
+        } => Known { len, next },
+        Step::Above | Step::Over | Step::End => Known { len: cap, next: at },
+    }
 }
 
 // One level, from lo up to hi. The first is stored by itself: most runs of noisy data are one bin, and a loop, which becomes a call, costs more.

@@ -5,3 +5,4 @@ pub mod Over
 pub mod Octets
 pub mod Filled
 pub mod Readings
+pub mod Passed

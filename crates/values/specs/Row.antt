@@ -25,13 +25,13 @@ numberedTo (Number z) lo hi = hi
 abbrev pub Writable : List ℤ → Type 0
 Writable zs = (k : ℕ) → signMagnitude (getD zs k (pos 0)) < 65536
 
--- what reading the bins a up to b of the octets' levels asks: octets that open a run and give no more than a cut's bins, levels of the product, and
--- room for the bins in both buffers
+-- what reading the bins a up to b of the octets' levels asks: octets that open a run and give those bins, levels of the product, and room for the bins in
+-- both buffers
 pub record Bins (p : Product) (v a b : ℕ) (s : List ℕ) (marks values : ℕ) : Type 0 where
   pub low : v ≤ levelCount p
   pub opened : opens v s ≡ true
-  pub few : length (levels v s) ≤ 2097152
-  pub some : a < b
+  pub near : b ≤ 1099511627775
+  pub order : a ≤ b
   pub given : b ≤ length (levels v s)
   pub room-marks : b - a ≤ marks
   pub room-values : b - a ≤ values

@@ -168,7 +168,7 @@ fn put_reading(reading: Reading, lo: usize, hi: usize, marks: &mut [u8], values:
     stamp_number(values, lo, numbered_to(reading, lo, hi), number_of(reading));
 }
 
-// The bins a up to b of what the octets give, run by run: their marks at the front of `marks`, and their numbers in `values`.
+// The bins a up to b of what the octets give, run by run, however long their runs are: their marks at the front of `marks`, and their numbers in `values`.
 fn readings_in(
     product: Product,
     table: &[i16],
@@ -184,27 +184,26 @@ fn readings_in(
     ensures { λ _. ⌜ now (marks .exit) ≡ marksOf product (between a b (levels v (now (octets .entry)))) (now (marks .entry)) ⌝ }
     ensures { λ _. ⌜ now (values .exit) ≡ valuesOf product (between a b (levels v (now (octets .entry)))) (now (values .entry)) ⌝ }
 {
-    let spot = runs::seek(octets, v, a);
-    let mut at = spot.at;
-    let mut bins = spot.bins;
+    let mut at: usize = 0;
+    let mut bins: usize = 0;
     while bins < b {
         let reading = reading_in(product, table, octets[at]);
-        let run = runs::known_run(octets, v, at);
-        let end = bins + run.len;
+        let run = runs::run_upto(octets, v, at, b - bins);
+        let to = bins + run.len;
         put_reading(
             reading,
             runs::above(bins, a),
-            runs::above(runs::lesser(end, b), a),
+            runs::above(to, a),
             marks,
             values,
         );
-        bins = end;
+        bins = to;
         at = run.next;
     }
 }
 
-// The readings of the bins a up to b of what the octets give.
-pub fn readings_into(
+// The readings of the bins a up to b of what the octets give, from their front on.
+pub fn readings_from(
     product: Product,
     octets: &[u8],
     v: u8,
@@ -239,6 +238,35 @@ pub fn readings_into(
             values,
         ),
     }
+}
+
+// The same of octets that are known to give no more than a cut's bins: the runs before bin a are passed over, and nothing is stored.
+pub fn readings_into(
+    product: Product,
+    octets: &[u8],
+    v: u8,
+    a: usize,
+    b: usize,
+    marks: &mut [u8],
+    values: &mut [i32],
+)
+    requires { ⌜ Bins product v a b (now octets) (length (now marks)) (length (now values)) ⌝ }
+    requires { ⌜ (a < b) × (length (levels v (now octets)) ≤ 2097152) ⌝ }
+    ensures { λ _. ⌜ now (marks .exit) ≡ marksOf product (between a b (levels v (now (octets .entry)))) (now (marks .entry)) ⌝ }
+    ensures { λ _. ⌜ now (values .exit) ≡ valuesOf product (between a b (levels v (now (octets .entry)))) (now (values .entry)) ⌝ }
+{
+    let spot = runs::seek(octets, v, a);
+    let at = spot.at;
+    let passed = spot.bins;
+    readings_from(
+        product,
+        &octets[at..],
+        v,
+        a - passed,
+        b - passed,
+        marks,
+        values,
+    )
 }
 
 // A value in 16 bits, sign and magnitude. (-32768 has no such form.)

@@ -13,7 +13,7 @@ use Rattle.runs.proofs.run_at.Statement.{statement}
 use Rattle.runs.proofs.run_at.Tie as tie
 
 abbrev Inv-loop : tie.InvT-loop
-Inv-loop octets v at cap level base i₀ len₀ weight₀ i len weight = (i ≤ length octets) × (len ≤ cap) × (weight ≤ 4294967295 * 255) × (goOn v cap level len weight i (drop i octets) ≡ stepAt v cap octets at)
+Inv-loop octets v at cap level base i₀ len₀ weight₀ i len weight = (i ≤ length octets) × (len ≤ cap) × (weight ≤ 1099511627775 * 255) × (goOn v cap level len weight i (drop i octets) ≡ stepAt v cap octets at)
 
 abbrev μ-loop : tie.MeasureT-loop
 μ-loop octets v at cap level base i₀ len₀ weight₀ i len weight = length octets - i
@@ -63,13 +63,13 @@ mul-len : tie.Need-mul-len Inv-loop μ-loop
 mul-len c =
     let a = c .before .before .before .before .before .before .before .before .args in
     let d = c .before .before .before .loop in
-    record { fits = omega (arith, product (4294967295 * 255) (getD (a .octets .now) (d .i) 0 - a .v - 1) (d .weight) (omega (arith, c .before .shared-slice-known2 .given (c .before .before .before .loop .i))) (omega arith)) }
+    record { fits = omega (arith, product (1099511627775 * 255) (getD (a .octets .now) (d .i) 0 - a .v - 1) (d .weight) (omega (arith, c .before .shared-slice-known2 .given (c .before .before .before .loop .i))) (omega arith)) }
 
 add-len : tie.Need-add-len Inv-loop μ-loop
 add-len c =
     let a = c .before .before .before .before .before .before .before .before .args in
     let d = c .before .before .before .loop in
-    record { fits = omega (arith, product (4294967295 * 255) (getD (a .octets .now) (d .i) 0 - a .v - 1) (d .weight) (omega (arith, c .before .shared-slice-known2 .given (c .before .before .before .loop .i))) (omega arith)) }
+    record { fits = omega (arith, product (1099511627775 * 255) (getD (a .octets .now) (d .i) 0 - a .v - 1) (d .weight) (omega (arith, c .before .shared-slice-known2 .given (c .before .before .before .loop .i))) (omega arith)) }
 
 returns-4 : tie.Need-returns-4 Inv-loop μ-loop
 returns-4 c =
@@ -84,7 +84,7 @@ mul-weight : tie.Need-mul-weight Inv-loop μ-loop
 mul-weight c =
     let a = c .before .before .before .before .before .before .before .before .before .before .args in
     let d = c .before .before .before .before .before .loop in
-    record { fits = omega (arith, mul-le-mul {n₁ = d .weight} {m₁ = 255 - a .v} {n₂ = 4294967295} {m₂ = 255} (omega arith) (omega arith)) }
+    record { fits = omega (arith, mul-le-mul {n₁ = d .weight} {m₁ = 255 - a .v} {n₂ = 1099511627775} {m₂ = 255} (omega arith) (omega arith)) }
 
 loop-less : tie.Need-loop-less Inv-loop μ-loop
 loop-less c = search needs
@@ -94,7 +94,7 @@ loop-again c =
     let a = c .before .before .before .before .before .before .before .before .before .before .args in
     let d = c .before .before .before .before .before .loop in
     let small : d .weight ≤ a .cap = omega arith in
-    (omega arith, omega arith, omega (arith, mul-le-mul {n₁ = d .weight} {m₁ = 255 - a .v} {n₂ = 4294967295} {m₂ = 255} (omega arith) (omega arith)), (simp (le-leb _ _ small) at (go-digit (a .v) (a .cap) (getD (a .octets .now) (a .at) 0) (d .len) (d .weight) (d .i) (a .octets .now) _ (omega arith) (omega arith) (omega arith) (d .inv .3))))
+    (omega arith, omega arith, omega (arith, mul-le-mul {n₁ = d .weight} {m₁ = 255 - a .v} {n₂ = 1099511627775} {m₂ = 255} (omega arith) (omega arith)), (simp (le-leb _ _ small) at (go-digit (a .v) (a .cap) (getD (a .octets .now) (a .at) 0) (d .len) (d .weight) (d .i) (a .octets .now) _ (omega arith) (omega arith) (omega arith) (d .inv .3))))
 
 loop-less-2 : tie.Need-loop-less-2 Inv-loop μ-loop
 loop-less-2 c = search needs

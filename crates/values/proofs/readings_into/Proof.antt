@@ -1,29 +1,43 @@
--- The constant lent for each product is that product's table.
-use mathlib.Core.Path.{sym, ap}
-use Rattle.values.specs.Published.{tableOf}
+-- `readings_into` meets its contract: the bins lie in the octets from the spot of bin a on (Passed.antt).
+use Prim.Native.Nat.{ℕ, _≤_}
+use mathlib.Core.Path.{_≡_, ap, _∙_}
+use mathlib.Core.List.{List}
+use native.Mathlib.Omega.{arith}
+use lib.ListN.{length}
 use borrow.Author.Needs.{needs}
+use Rattle.values.specs.Ray.{marksOf, valuesOf}
+use Rattle.values.proofs.Passed.{base-low, at-inside, passed-asks, passed-gives}
 use Rattle.values.proofs.readings_into.Statement.{statement}
 use Rattle.values.proofs.readings_into.Tie as tie
 
-enum-told : tie.Need-enum-told
-enum-told c = search needs
+seek-requires : tie.Need-seek-requires
+seek-requires c κs = let s = c .before .before in
+    let p = s .pre .0 in
+    ((base-low (s .args .product) (s .args .v) (p .low), p .opened, s .pre .1 .1), omega (arith, s .pre .1 .0, p .given))
 
-slice-aggregate-readings-in : tie.Need-slice-aggregate-readings-in
-slice-aggregate-readings-in c = search needs
+-- the spot's octet stands in the octets
+inside : (c : tie.After-seek) → let s = c .before .before .before in c .seek .result .at ≤ length (s .args .octets .now)
+inside c = let s = c .before .before .before in
+    omega (arith, at-inside (s .args .product) (s .args .v) (s .args .a) (s .args .b) (s .args .octets .now) _ _ (s .pre .0) (s .pre .1 .0) (c .seek .result) (c .seek .ensures))
 
-readings-in-requires : tie.Need-readings-in-requires
-unfolding tableOf
-readings-in-requires c κs = (sym (ap tableOf (c .before .before .before .enum-told .given .1)), c .before .before .before .before .before .before .before .pre)
+sub-readings-from : tie.Need-sub-readings-from
+sub-readings-from c = inside c
 
-enum-told-2 : tie.Need-enum-told-2
-enum-told-2 c = search needs
+part-readings-from-start : tie.Need-part-readings-from-start
+part-readings-from-start c = inside c
 
-slice-aggregate-readings-in-2 : tie.Need-slice-aggregate-readings-in-2
-slice-aggregate-readings-in-2 c = search needs
+part-readings-from-end : tie.Need-part-readings-from-end
+part-readings-from-end c = search needs
 
-readings-in-requires-2 : tie.Need-readings-in-requires-2
-unfolding tableOf
-readings-in-requires-2 c κs = (sym (ap tableOf (c .before .before .before .enum-told2 .given .1)), c .before .before .before .before .before .before .before .pre)
+sub-readings-from-2 : tie.Need-sub-readings-from-2
+sub-readings-from-2 c = c .before .seek .ensures .before
+
+sub-readings-from-3 : tie.Need-sub-readings-from-3
+sub-readings-from-3 c = omega (arith, c .before .seek .ensures .before, c .before .before .before .before .pre .1 .0)
+
+readings-from-requires : tie.Need-readings-from-requires
+readings-from-requires c κs = let s = c .before .before .before .before .before .before in
+    passed-asks (s .args .product) (s .args .v) (s .args .a) (s .args .b) (s .args .octets .now) _ _ (s .pre .0) (s .pre .1 .0) (c .before .before .before .seek .result) (c .before .before .before .seek .ensures)
 
 same-length : tie.Need-same-length
 same-length c = search needs
@@ -32,30 +46,22 @@ same-length-2 : tie.Need-same-length-2
 same-length-2 c = search needs
 
 returns : tie.Need-returns
-returns c = search needs
-
-same-length-3 : tie.Need-same-length-3
-same-length-3 c = search needs
-
-same-length-4 : tie.Need-same-length-4
-same-length-4 c = search needs
-
-returns-2 : tie.Need-returns-2
-returns-2 c = search needs
+returns c = let s = c .before .before .before .before .before .before .before .before .before .before in
+    let k = c .before .before .before .before .before .before .before .seek in
+    let bins = passed-gives (s .args .product) (s .args .v) (s .args .a) (s .args .b) (s .args .octets .now) _ _ (s .pre .0) (s .pre .1 .0) (k .result) (k .ensures) in
+    (c .before .before .before .readings-from .ensures .0 ∙ ap (λ (l : List ℕ). marksOf (s .args .product) l (s .args .marks .now)) bins, c .before .before .before .readings-from .ensures .1 ∙ ap (λ (l : List ℕ). valuesOf (s .args .product) l (s .args .values .now)) bins)
 
 pub readings-into-spec : {M : Type 1} → statement M
 readings-into-spec =
     tie.close
     (tie.spec
-    enum-told
-    slice-aggregate-readings-in
-    readings-in-requires
-    enum-told-2
-    slice-aggregate-readings-in-2
-    readings-in-requires-2
+    seek-requires
+    sub-readings-from
+    part-readings-from-start
+    part-readings-from-end
+    sub-readings-from-2
+    sub-readings-from-3
+    readings-from-requires
     same-length
     same-length-2
-    returns
-    same-length-3
-    same-length-4
-    returns-2)
+    returns)

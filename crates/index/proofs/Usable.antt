@@ -1,0 +1,120 @@
+-- When decoding from a record is to be had, by what stands at its octet.
+use Prim.Native.Nat.{ℕ, _+_, _-_, _≤_, _<_}
+use mathlib.Core.Path.{_≡_, refl, sym, ap, _∙_}
+use mathlib.Core.Bool.{Bool, true, false, cond}
+use mathlib.Core.List.{List}
+use native.Mathlib.Omega.{arith}
+use lib.ListN.{length, take, drop, getD, length-drop}
+use lib.Seq.{take-all, drop-drop, getD-drop}
+use lib.Dec.{leb, ltb}
+use borrow.Author.Tests.{le-leb, lt-leb, lt-ltb, le-ltb, leb-true}
+use denote.Enum.Declared.{tagOf}
+use Rattle.runs.specs.declared.Step.{Step}
+use Rattle.runs.specs.declared.Step.the-variants.{Run, Above, Over, End}
+use Rattle.runs.proofs.Step.{the-type}
+use Rattle.runs.specs.Run.{levels, opens, runLen, runNext, digitSum, stepAt}
+use Rattle.runs.proofs.Bins.{either, drop-at}
+use Rattle.runs.proofs.Steps.{stepAt-end, stepAt-above, stepAt-run}
+use Rattle.index.specs.declared.RayRecord.{RayRecord}
+use Rattle.index.specs.Index.{usable}
+
+-- ---- the four conditions, one by one
+module _ (v nb : ℕ) (s : List ℕ) (p : RayRecord) where
+  pub usable-outside : length s ≤ p .offset → usable v nb s p ≡ false
+  unfolding usable
+  usable-outside h = simp (le-ltb _ _ h)
+
+  pub usable-above : p .offset < length s → v < getD s (p .offset) 0 → usable v nb s p ≡ false
+  unfolding usable
+  usable-above i h = simp (lt-ltb _ _ i, lt-leb _ _ h)
+
+  pub usable-reached : p .offset < length s → getD s (p .offset) 0 ≤ v → runLen v s (p .offset) ≤ p .before → usable v nb s p ≡ false
+  unfolding usable
+  usable-reached i l h = simp (lt-ltb _ _ i, le-leb _ _ l, le-ltb _ _ h)
+
+  pub usable-left : p .offset < length s → getD s (p .offset) 0 ≤ v → p .before < runLen v s (p .offset) → usable v nb s p ≡ leb (p .before + nb) (length (levels v (drop (p .offset) s)))
+  unfolding usable
+  usable-left i l h = simp (lt-ltb _ _ i, le-leb _ _ l, lt-ltb _ _ h)
+
+-- ---- a record at the front, by the step there with its earlier bins for the cap
+told : (t : Bool) (o l n : ℕ) → Over ≡ cond t (Run o l n) Over → t ≡ false
+told true o l n e = absurd (let w : _≡_ {A = ℕ} 0 1 = cc e in omega arith)
+told false o l n e = refl
+
+module _ (v nb : ℕ) (s : List ℕ) (b : ℕ) where
+  abbrev here : RayRecord
+  here = record { offset = 0; before = b }
+
+  pub over-there : Over ≡ stepAt v b s 0 → (0 < length s) × (getD s 0 0 ≤ v) × (b < runLen v s 0)
+  over-there e =
+      either (length s) 0
+      (λ h. absurd (let w : _≡_ {A = ℕ} 0 1 = cc (e ∙ sym (stepAt-end v b s 0 h)) in omega arith))
+      (λ i.
+      either (getD s 0 0) v
+      (λ l.
+      either (runLen v s 0) b
+      (λ h. absurd (let w : _≡_ {A = ℕ} 0 1 = cc (sym (told (leb (runLen v s 0) b) (getD s 0 0) (runLen v s 0) (runNext v s 0) (e ∙ sym (stepAt-run v b s 0 i l))) ∙ le-leb (runLen v s 0) b h) in omega arith))
+      (λ h. (i, l, h)))
+      (λ h. absurd (let w : _≡_ {A = ℕ} 0 1 = cc (e ∙ sym (stepAt-above v b s 0 i h)) in omega arith)))
+
+  pub over-opens : Over ≡ stepAt v b s 0 → opens v s ≡ true
+  over-opens e = let t = over-there e in ap (opens v) (drop-at s 0 (t .0)) ∙ le-leb (getD s 0 0) v (t .1)
+
+  pub over-usable : Over ≡ stepAt v b s 0 → usable v nb s here ≡ leb (b + nb) (length (levels v s))
+  over-usable e = let t = over-there e in usable-left v nb s here (t .0) (t .1) (t .2)
+
+  pub other-usable : (step : Step) → step ≡ stepAt v b s 0 → (tagOf the-type step ≡ 2 → ⊥) → usable v nb s here ≡ false
+  other-usable step e other =
+      either (length s) 0
+      (λ h. usable-outside v nb s here h)
+      (λ i.
+      either (getD s 0 0) v
+      (λ l.
+      either (runLen v s 0) b
+      (λ h. usable-reached v nb s here i l h)
+      (λ h. absurd (other (ap (tagOf the-type) (e ∙ sym (stepAt-run v b s 0 i l) ∙ ap (λ (t : Bool). cond t (Run (getD s 0 0) (runLen v s 0) (runNext v s 0)) Over) (lt-leb (runLen v s 0) b h))))))
+      (λ h. usable-above v nb s here i h))
+
+-- ---- a record at an offset is one at the front of the octets from there on
+pub to-end : (s : List ℕ) (at : ℕ) → take (length s - at) (drop at s) ≡ drop at s
+to-end s at = take-all (length s - at) (drop at s) (omega (arith, length-drop at s))
+
+pub usable-from : (v nb : ℕ) (s : List ℕ) (p : RayRecord) → p .offset < length s → usable v nb (drop (p .offset) s) (record { offset = 0; before = p .before }) ≡ usable v nb s p
+usable-from v nb s p i =
+    let at = p .offset in
+    let t = drop at s in
+    let q : RayRecord = record { offset = 0; before = p .before } in
+    let inside : 0 < length t = omega (arith, length-drop at s) in
+    let octet : getD t 0 0 ≡ getD s at 0 = getD-drop at s 0 0 ∙ ap (λ (n : ℕ). getD s n 0) (omega arith) in
+    let run : runLen v t 0 ≡ runLen v s at = ap (λ (l : List ℕ). 1 + digitSum v 0 l) (drop-drop 1 at s) in
+    either (getD s at 0) v
+    (λ l.
+    either (runLen v s at) (p .before)
+    (λ h. usable-reached v nb t q inside (omega (arith, octet)) (omega (arith, run)) ∙ sym (usable-reached v nb s p i l h))
+    (λ h. usable-left v nb t q inside (omega (arith, octet)) (omega (arith, run)) ∙ sym (usable-left v nb s p i l h)))
+    (λ h. usable-above v nb t q inside (omega (arith, octet)) ∙ sym (usable-above v nb s p i h))
+
+-- ---- what stands at a record that fits
+pub record Fits (v nb : ℕ) (s : List ℕ) (p : RayRecord) : Type 0 where
+  pub inside : p .offset < length s
+  pub opened : opens v (drop (p .offset) s) ≡ true
+  pub given : p .before + nb ≤ length (levels v (drop (p .offset) s))
+
+pub usable-fits : (v nb : ℕ) (s : List ℕ) (p : RayRecord) → usable v nb s p ≡ true → Fits v nb s p
+usable-fits v nb s p u =
+    either (length s) (p .offset)
+    (λ h. absurd (never (usable-outside v nb s p h)))
+    (λ i.
+    either (getD s (p .offset) 0) v
+    (λ l.
+    either (runLen v s (p .offset)) (p .before)
+    (λ h. absurd (never (usable-reached v nb s p i l h)))
+    (λ h. record {
+      inside = i;
+      opened = ap (opens v) (drop-at s (p .offset) i) ∙ le-leb (getD s (p .offset) 0) v l;
+      given = leb-true (p .before + nb) (length (levels v (drop (p .offset) s))) (sym (usable-left v nb s p i l h) ∙ u);
+    }))
+    (λ h. absurd (never (usable-above v nb s p i h))))
+  where
+    never : usable v nb s p ≡ false → ⊥
+    never f = let w : _≡_ {A = ℕ} 0 1 = cc (sym u ∙ f) in omega arith

@@ -1,0 +1,49 @@
+-- The walk over the runs of accepted data, ray by ray, that makes the records.
+use Prim.Native.Nat.{ℕ, _+_, _-_, _*_, _≤_, _<_}
+use mathlib.Core.Path.{_≡_}
+use mathlib.Core.Bool.{true}
+use mathlib.Core.List.{List}
+use lib.ListN.{length, take, drop}
+use Rattle.runs.specs.Run.{levels, opens}
+use Rattle.index.specs.declared.RayRecord.{RayRecord}
+use Rattle.index.specs.declared.Pace.{Pace}
+use Rattle.index.specs.Index.{recordOf}
+
+-- the data in the octets lent
+abbrev pub dataIn : List ℕ → Pace → List ℕ
+dataIn s p = take (p .to - p .from) (drop (p .from) s)
+
+-- the walk has a run in hand, bins `bins` up to `end` of what the data d gives, and stands past it at `next`
+pub record InHand (v : ℕ) (d : List ℕ) (at bins end next : ℕ) : Type 0 where
+  pub within : end ≤ length (levels v d)
+  pub rest : drop end (levels v d) ≡ levels v (drop next d)
+  pub opened : opens v (drop next d) ≡ true
+  pub inside : at ≤ length d
+  pub held : (a : ℕ) → bins ≤ a → a < end → recordOf v d 0 a ≡ record { offset = at; before = a - bins }
+  pub past : (a : ℕ) → end ≤ a → recordOf v d 0 a ≡ recordOf v (drop next d) next (a - end)
+
+-- the next ray does not begin before that run
+pub record Along (d : List ℕ) (p : Pace) : Type 0 where
+  pub low : p .v ≤ 253
+  pub few : length (levels (p .v) d) ≤ 2097152
+  pub short : length d ≤ 4294967295
+  pub ray : p .nb ≤ 2097152
+  pub before : p .bins ≤ p .bin
+  pub run : InHand (p .v) d (p .at) (p .bins) (p .end) (p .next)
+
+-- one ray on
+pub record Onward (d : List ℕ) (p r : Pace) : Type 0 where
+  pub along : Along d r
+  pub same-from : r .from ≡ p .from
+  pub same-to : r .to ≡ p .to
+  pub same-v : r .v ≡ p .v
+  pub same-nb : r .nb ≡ p .nb
+  pub bin : r .bin ≡ p .bin + p .nb
+  pub rec : r .rec ≡ recordOf (p .v) d 0 (p .bin)
+
+-- the same in the octets lent, with n rays to come
+pub record Going (s : List ℕ) (p : Pace) (n : ℕ) : Type 0 where
+  pub order : p .from ≤ p .to
+  pub reach : p .to ≤ length s
+  pub along : Along (dataIn s p) p
+  pub left : (k : ℕ) → k < n → p .bin + k * p .nb < length (levels (p .v) (dataIn s p))

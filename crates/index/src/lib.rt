@@ -1,0 +1,227 @@
+// An index of a cut's rays: where in the data each ray begins, and what decoding from such a place gives. specs/Index.antt says both.
+// Stands on `runs`.
+use runs::Step;
+ghost use mathlib.Core.Bool.{true, cond};
+ghost use mathlib.Core.Path.{_≡_};
+ghost use Prim.Native.Nat.{_-_, _≤_, _<_};
+ghost use lib.ListN.{length, take};
+ghost use lib.Dec.{leb};
+ghost use Rattle.runs.specs.Run.{levels, opens};
+ghost use Rattle.runs.specs.Lent.{front, between};
+ghost use Rattle.index.specs.Index.{usable, fromRecord, records};
+ghost use Rattle.index.specs.Pace.{dataIn, Along, Onward, Going};
+
+// Where a ray begins: the offset in the data of the level octet whose run holds its first bin, and how many bins of that run came before.
+#[repr(C)]
+pub struct RayRecord {
+    pub offset: u32,
+    pub before: u32,
+}
+
+// Whether the octets give as many bins as are wanted.
+fn reaches(octets: &[u8], v: u8, want: usize) -> bool
+    requires { ⌜ (v ≤ 253) × (want ≤ 1099511627775) × (opens v (now octets) ≡ true) ⌝ }
+    ensures { λ r. ⌜ r ≡ leb want (length (levels v (now (octets .entry)))) ⌝ }
+{
+    let mut at: usize = 0;
+    let mut bins: usize = 0;
+    while bins < want {
+        if octets.len() <= at {
+            return false;
+        }
+        let run = runs::run_upto(octets, v, at, want - bins);
+        bins += run.len;
+        at = run.next;
+    }
+    true
+}
+
+// The bins a up to b of what the octets give, at the front of out, however long their runs are; or false where the octets end first: out then holds
+// what there was of them.
+fn paint(octets: &[u8], v: u8, a: usize, b: usize, out: &mut [u8]) -> bool
+    requires { ⌜ (v ≤ 253) × (b ≤ 1099511627775) × (opens v (now octets) ≡ true) ⌝ }
+    requires { ⌜ (a ≤ b) × (b - a ≤ length (now out)) ⌝ }
+    ensures { λ r. ⌜ r ≡ leb b (length (levels v (now (octets .entry)))) ⌝ }
+    ensures { λ r. ⌜ (r ≡ true → now (out .exit) ≡ front (between a b (levels v (now (octets .entry)))) (now (out .entry))) ⌝ }
+{
+    let mut at: usize = 0;
+    let mut bins: usize = 0;
+    while bins < b {
+        if octets.len() <= at {
+            return false;
+        }
+        let level = octets[at];
+        let run = runs::run_upto(octets, v, at, b - bins);
+        let to = bins + run.len;
+        runs::stamp(out, runs::above(bins, a), runs::above(to, a), level);
+        bins = to;
+        at = run.next;
+    }
+    true
+}
+
+// The first n octets of a row, at the front of out.
+fn carry(row: &[u8], n: usize, out: &mut [u8])
+    requires { ⌜ (n ≤ length (now row)) × (n ≤ length (now out)) ⌝ }
+    ensures { λ _. ⌜ now (out .exit) ≡ front (take n (now (row .entry))) (now (out .entry)) ⌝ }
+{
+    let mut i: usize = 0;
+    while i < n {
+        out[i] = row[i];
+        i += 1;
+    }
+}
+
+// The levels from a record at the octets' front, whose earlier bins are given. They are decoded once, into a row of our own: not until the last of them is
+// there is it known that the record fits, and where it does not the lent memory is as it was.
+fn levels_in(octets: &[u8], v: u8, nb: usize, before: usize, out: &mut [u8]) -> bool
+    requires { ⌜ (v ≤ 253) × (nb ≤ 2048) × (before ≤ 4294967295) × (nb ≤ length (now out)) ⌝ }
+    ensures { λ r. ⌜ r ≡ usable v nb (now (octets .entry)) (record { offset = 0; before = before }) ⌝ }
+    ensures { λ r. ⌜ now (out .exit) ≡ cond r (front (fromRecord v nb (now (octets .entry)) (record { offset = 0; before = before })) (now (out .entry))) (now (out .entry)) ⌝ }
+{
+    let first = runs::run_at(octets, v, 0, before);
+    let Step::Over = first else {
+        return false; // no level octet, or a run that the earlier bins reach the end of
+    };
+    let mut row = [0u8; 2048];
+    if paint(octets, v, before, before + nb, &mut row) {
+        carry(&row, nb, out);
+        return true;
+    }
+    false
+}
+
+// The nb levels that decoding from a record gives, at the front of out; or false, and out as it was, where the record does not fit the data.
+pub fn levels_from(octets: &[u8], v: u8, nb: usize, rec: RayRecord, out: &mut [u8]) -> bool
+    requires { ⌜ (v ≤ 253) × (nb ≤ 2048) × (nb ≤ length (now out)) ⌝ }
+    ensures { λ r. ⌜ r ≡ usable v nb (now (octets .entry)) rec ⌝ }
+    ensures { λ r. ⌜ now (out .exit) ≡ cond r (front (fromRecord v nb (now (octets .entry)) rec) (now (out .entry))) (now (out .entry)) ⌝ }
+{
+    let at = rec.offset as usize;
+    if octets.len() <= at {
+        return false;
+    }
+    let before = rec.before as usize;
+    levels_in(&octets[at..], v, nb, before, out)
+}
+
+// Whether a record at the octets' front, whose earlier bins are given, fits them.
+fn fits_in(octets: &[u8], v: u8, nb: usize, before: usize) -> bool
+    requires { ⌜ (v ≤ 253) × (nb ≤ 2048) × (before ≤ 4294967295) ⌝ }
+    ensures { λ r. ⌜ r ≡ usable v nb (now (octets .entry)) (record { offset = 0; before = before }) ⌝ }
+{
+    let first = runs::run_at(octets, v, 0, before);
+    let Step::Over = first else {
+        return false;
+    };
+    reaches(octets, v, before + nb)
+}
+
+// Whether a record fits the data: whether decoding from it gives nb levels.
+pub fn fits(octets: &[u8], v: u8, nb: usize, rec: RayRecord) -> bool
+    requires { ⌜ (v ≤ 253) × (nb ≤ 2048) ⌝ }
+    ensures { λ r. ⌜ r ≡ usable v nb (now (octets .entry)) rec ⌝ }
+{
+    let at = rec.offset as usize;
+    if octets.len() <= at {
+        return false;
+    }
+    let before = rec.before as usize;
+    fits_in(&octets[at..], v, nb, before)
+}
+
+// The walk over the runs of a cut's data, ray by ray: the record made last; where the data stands in the octets lent, V and the bins of a
+// ray; the first bin of the next ray; and the run in hand: its octet's place in the data, the bins before it and up to its end, and the
+// place past its digits.
+pub struct Pace {
+    pub rec: RayRecord,
+    pub from: usize,
+    pub to: usize,
+    pub v: u8,
+    pub nb: usize,
+    pub bin: usize,
+    pub at: usize,
+    pub bins: usize,
+    pub end: usize,
+    pub next: usize,
+}
+
+// Before the first run.
+pub fn at_front(from: usize, to: usize, v: u8, nb: usize) -> Pace
+    ensures { λ r. ⌜ r ≡ record { rec = record { offset = 0; before = 0 }; from = from; to = to; v = v; nb = nb; bin = 0; at = 0; bins = 0; end = 0; next = 0 } ⌝ }
+{
+    Pace {
+        rec: RayRecord {
+            offset: 0,
+            before: 0,
+        },
+        from,
+        to,
+        v,
+        nb,
+        bin: 0,
+        at: 0,
+        bins: 0,
+        end: 0,
+        next: 0,
+    }
+}
+
+// One ray on, over the data: runs that end before its first bin are passed over, each once.
+fn ray_on(part: &[u8], p: Pace) -> Pace
+    requires { ⌜ Along (now part) p × (p .bin < length (levels (p .v) (now part))) ⌝ }
+    ensures { λ r. ⌜ Onward (now (part .entry)) p r ⌝ }
+{
+    let v = p.v;
+    let bin = p.bin;
+    let mut at = p.at;
+    let mut bins = p.bins;
+    let mut end = p.end;
+    let mut next = p.next;
+    while end <= bin {
+        let run = runs::known_run(part, v, next);
+        at = next;
+        bins = end;
+        end += run.len;
+        next = run.next;
+    }
+    Pace {
+        rec: RayRecord {
+            offset: at as u32,
+            before: (bin - bins) as u32,
+        },
+        from: p.from,
+        to: p.to,
+        v,
+        nb: p.nb,
+        bin: bin + p.nb,
+        at,
+        bins,
+        end,
+        next,
+    }
+}
+
+// One ray on, over the octets lent.
+pub fn next_ray(octets: &[u8], p: Pace) -> Pace
+    requires { ⌜ Going (now octets) p 1 ⌝ }
+    ensures { λ r. ⌜ Onward (dataIn (now (octets .entry)) p) p r ⌝ }
+{
+    let from = p.from;
+    let to = p.to;
+    ray_on(&octets[from..to], p)
+}
+
+// The records of n rays from the next one on, at the front of a lent row. Proved by hand: the borrow checker covers no slice of structs.
+pub fn lay(octets: &[u8], start: Pace, n: usize, row: &mut [RayRecord])
+    requires { ⌜ Going (now octets) start n × (n ≤ length (now row)) ⌝ }
+    ensures { λ _. ⌜ now (row .exit) ≡ front (records n (start .nb) (start .v) (dataIn (now (octets .entry)) start) (start .bin)) (now (row .entry)) ⌝ }
+{
+    let mut p = start;
+    let mut i: usize = 0;
+    while i < n {
+        p = next_ray(octets, p);
+        row[i] = p.rec;
+        i += 1;
+    }
+}

@@ -1,0 +1,53 @@
+-- What a good cut says of its data.
+use mathlib.Core.Path.{_≡_, _∙_}
+use Prim.Native.Nat.{_+_}
+use native.Mathlib.Omega.{arith}
+use Rattle.rules.specs.Fields.{lengthAt}
+use Rattle.polar.specs.Building.{startIn}
+use Rattle.polar.proofs.Starts.{start-going}
+use borrow.Author.Needs.{needs}
+use Rattle.polar.proofs.start_in.Statement.{statement}
+use Rattle.polar.proofs.start_in.Tie as tie
+
+greatest-in-requires : tie.Need-greatest-in-requires
+greatest-in-requires c κs = search needs
+
+bins-in-requires : tie.Need-bins-in-requires
+bins-in-requires c κs = search needs
+
+field32-requires : tie.Need-field32-requires
+field32-requires c κs = search needs
+
+add-at-front : tie.Need-add-at-front
+add-at-front c = search needs
+
+cast-at-front : tie.Need-cast-at-front
+cast-at-front c = search needs
+
+add-at-front-2 : tie.Need-add-at-front-2
+add-at-front-2 c = search needs
+
+at-front-requires : tie.Need-at-front-requires
+at-front-requires c κs = search needs
+
+returns : tie.Need-returns
+unfolding lengthAt
+returns c = let s = c .before .before .before .before .before in let a = s .args in
+    let ev = c .before .before .before .greatest-in .ensures in
+    let eb = c .before .before .bins-in .ensures in
+    let el = c .before .field32 .ensures in
+    let e : c .at-front .result ≡ startIn (a .file .now) (a .c) = c .at-front .ensures ∙ (λ j. record { rec = record { offset = 0; before = 0 }; from = a .c .section7 + 5; to = a .c .section7 + el j; v = ev j; nb = eb j; bin = 0; at = 0; bins = 0; end = 0; next = 0 }) in
+    (e, start-going (a .file .now) (a .c) (s .pre) (omega (arith, el, c .before .field32 .ok)) _ e)
+
+pub start-in-spec : {M : Type 1} → statement M
+start-in-spec =
+    tie.close
+    (tie.spec
+    greatest-in-requires
+    bins-in-requires
+    field32-requires
+    add-at-front
+    cast-at-front
+    add-at-front-2
+    at-front-requires
+    returns)

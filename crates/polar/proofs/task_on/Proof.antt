@@ -1,0 +1,45 @@
+-- By whether the row has a record for each ray.
+use mathlib.Core.Path.{_≡_, refl, sym, ap, subst, _∙_}
+use Prim.Native.Nat.{ℕ, _≤_, _<_}
+use mathlib.Core.List.{List}
+use native.Mathlib.Omega.{arith}
+use Rattle.runs.specs.Lent.{front}
+use Rattle.index.specs.Pace.{Going}
+use Rattle.index.specs.declared.RayRecord.{RayRecord}
+use Rattle.sections.specs.Parts.{raysIn}
+use Rattle.polar.proofs.Starts.{build-short, build-fits, none-lays, start-laid}
+use borrow.Author.Needs.{needs}
+use Rattle.polar.proofs.task_on.Statement.{statement}
+use Rattle.polar.proofs.task_on.Tie as tie
+
+rays-in-requires : tie.Need-rays-in-requires
+rays-in-requires c κs = search needs
+
+nothing-laid-requires : tie.Need-nothing-laid-requires
+nothing-laid-requires c κs = search needs
+
+returns : tie.Need-returns
+returns c = let s = c .before .before .before .before in let a = s .args in
+    let r = c .nothing-laid .ensures in
+    let short : a .room < raysIn (a .file .now) (a .c) = omega (arith, c .before .before .rays-in .ensures, c .before .if1 .taken) in
+    (r .0 ∙ sym (build-short (a .file .now) (a .room) (a .c) short), none-lays (a .file .now) _ _ (r .1) (r .2) (r .0) (a .c) (a .room))
+
+start-in-requires : tie.Need-start-in-requires
+start-in-requires c κs = search needs
+
+returns-2 : tie.Need-returns-2
+returns-2 c = let s = c .before .before .before .before in let a = s .args in
+    let r = c .start-in .ensures in
+    let en = c .before .before .rays-in .ensures in
+    let fits : raysIn (a .file .now) (a .c) ≤ a .room = omega (arith, en, c .before .if1 .left) in (
+      sym (build-fits (a .file .now) (a .room) (a .c) fits),
+      record {
+        going = subst (λ (n : ℕ). Going (a .file .now) (c .start-in .result) n) (sym en) (r .1);
+        fits = omega (arith, en);
+        laid = λ row. ap (λ (l : List RayRecord). front l row) (start-laid (a .file .now) (a .c) (s .pre) _ _ en (r .0));
+      },
+    )
+
+pub task-on-spec : {M : Type 1} → statement M
+task-on-spec =
+    tie.close (tie.spec rays-in-requires nothing-laid-requires returns start-in-requires returns-2)
