@@ -1,0 +1,4 @@
+pub mod Unfit
+pub mod Same
+pub mod Refused
+pub mod Determined

@@ -1,0 +1,193 @@
+-- Wish 4: "With the record that building made for that file, cut and ray, it provably equals the plain call". Of an accepted file both calls go by the same cut; the
+-- record that building made fits its data, and decoding from there gives the ray's bins. A ray past the last one both refuse, whatever the record.
+use Prim.Native.Nat.{ℕ, _*_, _≤_, _<_, min}
+use mathlib.Core.Path.{_≡_, refl, sym, ap, _∙_}
+use mathlib.Core.List.{List}
+use mathlib.Core.Bool.{Bool, true, false, cond}
+use native.Mathlib.Omega.{arith}
+use borrow.Author.Tests.{lt-ltb, le-ltb, ltb-false}
+use lib.Dec.{ltb}
+use lib.IntN.{ℤ}
+use lib.ListN.{length, getD, drop, List·getD-append}
+use Rattle.runs.specs.Lent.{front}
+use Rattle.runs.proofs.Bins.{either}
+use Rattle.index.specs.declared.RayRecord.{RayRecord}
+use Rattle.index.proofs.Records.{built-usable, built-from, length-records}
+use Rattle.values.specs.Ray.{marksOf, valuesOf}
+use Rattle.sections.specs.Parts.{binsIn, raysIn}
+use Rattle.sections.specs.Verdict.{Verdict, accepted, noCut}
+use Rattle.sections.specs.declared.Cut.{Cut}
+use Rattle.layout.specs.Parts.{dataAt, greatestIn, productIn}
+use Rattle.layout.specs.Good.{GoodCut}
+use Rattle.layout.specs.Checks.{ownChecks}
+use Rattle.layout.specs.Accepted.{kinds, Accepted}
+use Rattle.layout.specs.Verdict.{verdict, anyDataVerdict}
+use Rattle.layout.proofs.Exact.{exact}
+use Rattle.layout.proofs.GoodCuts.{good-accepted}
+use Rattle.layout.proofs.AnyData.{any-same}
+use Rattle.cuts.specs.Bins.{rayIn}
+use Rattle.cuts.specs.Records.{recordsIn, usableIn, rayFrom}
+use Rattle.cuts.proofs.Places.{ray-gives}
+use Rattle.polar.specs.Cuts.{onCut, cutAt, cutIn}
+use Rattle.polar.specs.Rays.{rayOn, rayAnswer, ifWritten, levelsAfter, marksAfter, valuesAfter}
+use Rattle.polar.specs.Records.{fromOn, fromAnswer, ifGiven, cutAnyData, levelsFrom, marksFrom, valuesFrom, buildOn, buildAnswer, rowAfter, BuildPromise}
+use Rattle.polar.specs.declared.RayAnswer.{RayAnswer}
+use Rattle.polar.specs.declared.RayAnswer.the-variants as Y
+use Rattle.polar.specs.declared.FillRefusal.the-variants as F
+use Rattle.polar.specs.declared.RecordAnswer.{RecordAnswer}
+use Rattle.polar.specs.declared.RecordAnswer.the-variants as R
+use Rattle.polar.specs.declared.RecordRefusal.the-variants as Q
+use Rattle.polar.proofs.ByVerdict.{by-verdict}
+use Rattle.demands.specs.Promises.{LevelsPromise, ValuesPromise}
+use Rattle.indexed.specs.Promises.{LevelsFromPromise, ValuesFromPromise}
+
+-- the plain call's answer, said by the other: the same number and place
+abbrev pub asFrom : RayAnswer → RecordAnswer
+asFrom Y.Written = R.Written
+asFrom (Y.Refused (F.File r)) = R.Refused (Q.File r)
+asFrom (Y.Refused F.Argument) = R.Refused Q.Argument
+asFrom (Y.Refused F.Room) = R.Refused Q.Room
+
+if-same : {A : Type 0} (a : RayAnswer) (new old : A) → ifGiven (asFrom a) new old ≡ ifWritten a new old
+if-same Y.Written new old = refl
+if-same (Y.Refused (F.File r)) new old = refl
+if-same (Y.Refused F.Argument) new old = refl
+if-same (Y.Refused F.Room) new old = refl
+
+-- ---- a good cut and a ray of it
+module _ (s : List ℕ) (c : Cut) (g : GoodCut s c) (ray : ℕ) (inside : ray < raysIn s c) (e : RayRecord) where
+  abbrev made : RayRecord
+  made = getD (recordsIn s c) ray e
+
+  made-usable : usableIn s c made ≡ true
+  unfolding recordsIn usableIn
+  made-usable = built-usable (greatestIn s c) (binsIn s c) (raysIn s c) (dataAt s (c .section7)) (g .any .bins-some) (g .exact) ray inside e
+
+  made-from : rayFrom s c made ≡ rayIn s c ray
+  unfolding recordsIn rayFrom
+  made-from =
+      built-from (greatestIn s c) (binsIn s c) (raysIn s c) (dataAt s (c .section7)) (g .any .bins-some) (g .exact) ray inside e
+      ∙ ray-gives s c g (greatestIn s c) (dataAt s (c .section7)) refl refl (binsIn s c) ray refl inside
+
+  same-on : (room : ℕ) → fromOn s ray made room c ≡ asFrom (rayOn s ray room c)
+  unfolding fromOn rayOn
+  same-on room =
+      rw (lt-ltb ray (raysIn s c) inside, made-usable) (short (ltb room (binsIn s c)))
+    where
+      short : (b : Bool) → cond b (R.Refused Q.Room) R.Written ≡ asFrom (cond b (Y.Refused F.Room) Y.Written)
+      short true = refl
+      short false = refl
+
+-- ---- an accepted file, a cut of it, and a record that is the one building made where the cut has the ray
+module _ (s : List ℕ) (cs : List Cut) (whole : verdict s ≡ accepted cs) (i : ℕ) (some : i < length cs) (ray : ℕ) (rec e : RayRecord)
+    (is : ray < raysIn s (getD cs i noCut) → rec ≡ getD (recordsIn s (getD cs i noCut)) ray e) where
+  abbrev cut : Cut
+  cut = getD cs i noCut
+
+  good : GoodCut s cut
+  good = good-accepted s cs (exact .accepted-only s cs whole) i some
+
+  by-record : (room : ℕ) → fromAnswer s i ray rec room ≡ fromOn s ray rec room cut
+  unfolding fromAnswer onCut
+  by-record room = ap (onCut (λ r. R.Refused (Q.File r)) (R.Refused Q.Argument) (fromOn s ray rec room) i) (any-same s cs whole) ∙ rw (lt-ltb i (length cs) some)
+
+  plainly : (room : ℕ) → rayAnswer s i ray room ≡ rayOn s ray room cut
+  unfolding rayAnswer onCut
+  plainly room = ap (onCut (λ r. Y.Refused (F.File r)) (Y.Refused F.Argument) (rayOn s ray room) i) whole ∙ rw (lt-ltb i (length cs) some)
+
+  on-cut : (room : ℕ) → fromOn s ray rec room cut ≡ asFrom (rayOn s ray room cut)
+  unfolding fromOn rayOn
+  on-cut room =
+      either (raysIn s cut) ray
+      (λ out. rw (le-ltb ray (raysIn s cut) out))
+      (λ inside. ap (λ (x : RayRecord). fromOn s ray x room cut) (is inside) ∙ same-on s cut good ray inside e room)
+
+  pub same-answer : (room : ℕ) → fromAnswer s i ray rec room ≡ asFrom (rayAnswer s i ray room)
+  same-answer room = by-record room ∙ on-cut room ∙ sym (ap asFrom (plainly room))
+
+  -- the bins that a written answer is about
+  bins-same : (room : ℕ) → rayAnswer s i ray room ≡ Y.Written → rayFrom s cut rec ≡ rayIn s cut ray
+  unfolding rayOn
+  bins-same room w =
+      either (raysIn s cut) ray
+      (λ out.
+      let no : Y.Refused F.Argument ≡ Y.Written = sym (plainly room ∙ rw (le-ltb ray (raysIn s cut) out)) ∙ w in
+      absurd (let z : _≡_ {A = ℕ} 0 1 = cc no in omega arith))
+      (λ inside. ap (rayFrom s cut) (is inside) ∙ made-from s cut good ray inside e)
+
+  -- what is left in lent memory, as `f` makes it of a cut and of bins
+  held-same : {A : Type 0} (room : ℕ) (f : Cut → List ℕ → A) (old : A)
+      → ifGiven (asFrom (rayAnswer s i ray room)) (f (cutAnyData s i) (rayFrom s (cutAnyData s i) rec)) old ≡ ifWritten (rayAnswer s i ray room) (f (cutIn s i) (rayIn s (cutIn s i) ray)) old
+  unfolding cutAt
+  held-same {A} room f old =
+      ap (λ (v : Verdict). ifGiven (asFrom (rayAnswer s i ray room)) (f (cutAt i v) (rayFrom s (cutAt i v) rec)) old) (any-same s cs whole)
+      ∙ go (rayAnswer s i ray room) refl
+      ∙ sym (ap (λ (v : Verdict). ifWritten (rayAnswer s i ray room) (f (cutAt i v) (rayIn s (cutAt i v) ray)) old) whole)
+    where
+      go : (a : RayAnswer) → rayAnswer s i ray room ≡ a → ifGiven (asFrom a) (f cut (rayFrom s cut rec)) old ≡ ifWritten a (f cut (rayIn s cut ray)) old
+      go Y.Written w = ap (f cut) (bins-same room w)
+      go (Y.Refused q) w = if-same (Y.Refused q) (f cut (rayFrom s cut rec)) old
+
+-- ---- THE THEOREM
+-- Where building has answered, and `row′` is the row that it left: for every ray, by the record that stands there, and any lent memory
+module _ (s : List ℕ) (i : ℕ) (row row′ : List RayRecord) (built : BuildPromise s i row Y.Written row′) (ray : ℕ) (e : RayRecord) where
+  abbrev rec : RayRecord
+  rec = getD row′ ray e
+
+  -- the file is accepted, has the cut, and the record is the one made
+  pub record Built : Type 0 where
+    pub cs : List Cut
+    pub whole : verdict s ≡ accepted cs
+    pub some : i < length cs
+    pub is : ray < raysIn s (getD cs i noCut) → rec ≡ getD (recordsIn s (getD cs i noCut)) ray e
+
+  standing : Built
+  unfolding buildAnswer rowAfter cutAt recordsIn
+  standing =
+      by-verdict ownChecks kinds exact s (λ r. Y.Refused (F.File r)) (Y.Refused F.Argument) (buildOn s (length row)) i Y.Written Built
+      (λ r k x. absurd (let z : _≡_ {A = ℕ} 0 1 = cc x in omega arith))
+      (λ cs k le x. absurd (let z : _≡_ {A = ℕ} 0 1 = cc x in omega arith))
+      (λ cs k lt x. record { cs = cs; whole = exact .accepted-all s cs k; some = lt; is = found cs (exact .accepted-all s cs k) })
+      (sym (built .answered))
+    where
+      found : (cs : List Cut) → verdict s ≡ accepted cs → ray < raysIn s (getD cs i noCut) → rec ≡ getD (recordsIn s (getD cs i noCut)) ray e
+      found cs w inside =
+          let c = getD cs i noCut in
+          ap (λ (l : List RayRecord). getD l ray e) (built .held ∙ ap (λ (v : Verdict). front (recordsIn s (cutAt i v)) row) w)
+          ∙ List·getD-append (recordsIn s c) (drop (length (recordsIn s c)) row) e ray (omega (arith, length-records (binsIn s c) (greatestIn s c) (dataAt s (c .section7)) (raysIn s c) 0))
+
+  pub same-levels : (out out′ out″ : List ℕ) (r : RecordAnswer) (a : RayAnswer) → LevelsFromPromise s i ray rec out r out′ → LevelsPromise s i ray out a out″
+      → (r ≡ asFrom a) × (out′ ≡ out″)
+  unfolding levelsFrom levelsAfter
+  same-levels out out′ out″ r a p q =
+      let b = standing in
+      let room : ℕ = length out in
+      let told : r ≡ asFrom (rayAnswer s i ray room) = p .answer ∙ same-answer s (b .cs) (b .whole) i (b .some) ray rec e (b .is) room in (
+        told ∙ sym (ap asFrom (q .answer)),
+        p .after
+            ∙ ap (λ (x : RecordAnswer). ifGiven x (front (rayFrom s (cutAnyData s i) rec) out) out) told
+            ∙ held-same s (b .cs) (b .whole) i (b .some) ray rec e (b .is) room (λ c l. front l out) out
+            ∙ sym (ap (λ (x : RayAnswer). ifWritten x (front (rayIn s (cutIn s i) ray) out) out) (q .answer))
+            ∙ sym (q .after),
+      )
+
+  pub same-values : (marks marks′ marks″ : List ℕ) (values values′ values″ : List ℤ) (r : RecordAnswer) (a : RayAnswer)
+      → ValuesFromPromise s i ray rec marks values r marks′ values′ → ValuesPromise s i ray marks values a marks″ values″
+      → (r ≡ asFrom a) × (marks′ ≡ marks″) × (values′ ≡ values″)
+  unfolding marksFrom valuesFrom marksAfter valuesAfter
+  same-values marks marks′ marks″ values values′ values″ r a p q =
+      let b = standing in
+      let room : ℕ = min (length marks) (length values) in
+      let told : r ≡ asFrom (rayAnswer s i ray room) = p .answer ∙ same-answer s (b .cs) (b .whole) i (b .some) ray rec e (b .is) room in (
+        told ∙ sym (ap asFrom (q .answer)),
+        p .marked
+            ∙ ap (λ (x : RecordAnswer). ifGiven x (marksOf (productIn s (cutAnyData s i)) (rayFrom s (cutAnyData s i) rec) marks) marks) told
+            ∙ held-same s (b .cs) (b .whole) i (b .some) ray rec e (b .is) room (λ c l. marksOf (productIn s c) l marks) marks
+            ∙ sym (ap (λ (x : RayAnswer). ifWritten x (marksOf (productIn s (cutIn s i)) (rayIn s (cutIn s i) ray) marks) marks) (q .answer))
+            ∙ sym (q .marked),
+        p .valued
+            ∙ ap (λ (x : RecordAnswer). ifGiven x (valuesOf (productIn s (cutAnyData s i)) (rayFrom s (cutAnyData s i) rec) values) values) told
+            ∙ held-same s (b .cs) (b .whole) i (b .some) ray rec e (b .is) room (λ c l. valuesOf (productIn s c) l values) values
+            ∙ sym (ap (λ (x : RayAnswer). ifWritten x (valuesOf (productIn s (cutIn s i)) (rayIn s (cutIn s i) ray) values) values) (q .answer))
+            ∙ sym (q .valued),
+      )
