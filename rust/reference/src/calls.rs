@@ -57,6 +57,16 @@ pub fn bin_value(file: &[u8], cut: usize, ray: usize, bin: usize) -> Result<Opti
     verdict(file)?.bin_value(cut, ray, bin)
 }
 
+/// A mark for each level (0 missing, 1 measured), and the value at each measured place; a missing place keeps what it held.
+pub(crate) fn put_values(product: Product, levels: &[u8], marks: &mut [u8], values: &mut [i32]) {
+    for (bin, level) in levels.iter().enumerate() {
+        match product.value(*level) {
+            None => marks[bin] = 0,
+            Some(value) => (marks[bin], values[bin]) = (1, value),
+        }
+    }
+}
+
 /// The calls on a file that is accepted already.
 impl<'a> Accepted<'a> {
     pub(crate) fn cut(&self, cut: usize) -> Result<&Cut<'a>, Refusal> {
@@ -83,16 +93,10 @@ impl<'a> Accepted<'a> {
         Ok(())
     }
 
-    /// Nb marks (0 missing, 1 measured), and the value at each measured place; a missing place keeps what it held.
     pub fn ray_values(&self, cut: usize, ray: usize, marks: &mut [u8], values: &mut [i32]) -> Result<(), Refusal> {
         let of_ray = self.ray(cut, ray)?;
         has_room(marks.len() >= of_ray.len() && values.len() >= of_ray.len())?;
-        for (bin, level) in of_ray.iter().enumerate() {
-            match self.product.value(*level) {
-                None => marks[bin] = 0,
-                Some(value) => (marks[bin], values[bin]) = (1, value),
-            }
-        }
+        put_values(self.product, of_ray, marks, values);
         Ok(())
     }
 

@@ -112,10 +112,15 @@ fn section_5(s: &Section, grid: &Grid, product: Product) -> Result<u8, Refusal> 
     Ok(v as u8)
 }
 
+/// The data, unchecked.
+fn data<'a>(s: &Section<'a>) -> Result<&'a [u8], Refusal> {
+    s.check(4, s.octets.len() >= 6)?;
+    Ok(&s.octets[5..])
+}
+
 /// The data; what run reading answers is passed on.
 fn section_7<'a>(s: &Section<'a>, grid: &Grid, v: u8) -> Result<&'a [u8], Refusal> {
-    s.check(4, s.octets.len() >= 6)?;
-    let data = &s.octets[5..];
+    let data = data(s)?;
     match runs::run_check(data, v, grid.bins * grid.rays) {
         Ok(()) => Ok(data),
         Err(refusal) => refused_at(refusal.number, s.place),
@@ -175,4 +180,53 @@ pub fn verdict(file: &[u8]) -> Result<Accepted<'_>, Refusal> {
     let (time, cuts) = walk(file, &mut seen)?;
     let (product, site) = seen.first.expect("a cut");
     Ok(Accepted { product, time, site, cuts })
+}
+
+/// A cut whose data was not checked.
+#[derive(Debug, Clone, Copy)]
+pub struct UncheckedCut<'a> {
+    pub grid: Grid,
+    pub v: u8,
+    pub data: &'a [u8],
+    /// where its section 7 starts
+    pub place: usize,
+}
+
+/// A file that every check but 8 passes.
+#[derive(Debug, Clone)]
+pub struct Unchecked<'a> {
+    pub product: Product,
+    pub cuts: Vec<UncheckedCut<'a>>,
+}
+
+/// The same sections, but that section 7 passes whatever its data.
+#[derive(Default)]
+struct SeenUnchecked(Seen);
+
+impl<'a> Format<'a> for SeenUnchecked {
+    type Cut = UncheckedCut<'a>;
+
+    fn section_3(&mut self, s: &Section<'a>) -> Result<(), Refusal> {
+        self.0.section_3(s)
+    }
+
+    fn section_4(&mut self, s: &Section<'a>) -> Result<(), Refusal> {
+        self.0.section_4(s)
+    }
+
+    fn section_5(&mut self, s: &Section<'a>) -> Result<(), Refusal> {
+        self.0.section_5(s)
+    }
+
+    fn section_7(&mut self, s: &Section<'a>) -> Result<UncheckedCut<'a>, Refusal> {
+        Ok(UncheckedCut { grid: self.0.grid(), v: self.0.v, data: data(s)?, place: s.place })
+    }
+}
+
+/// Every check but 8, in the same order.
+pub fn unchecked(file: &[u8]) -> Result<Unchecked<'_>, Refusal> {
+    let mut seen = SeenUnchecked::default();
+    let (_, cuts) = walk(file, &mut seen)?;
+    let (product, _) = seen.0.first.expect("a cut");
+    Ok(Unchecked { product, cuts })
 }

@@ -1,11 +1,12 @@
-//! A second view of what polar radar files mean, written from document 01 and wish 6 alone and by other means than the proved
-//! library: whole decoded cuts, iterators, exact arithmetic, no concern for speed. The tests hold the proved library to it.
+//! A second view of what polar radar files mean, written from document 01 and wishes 4 and 6 alone and by other means than the
+//! proved library: whole decoded cuts, iterators, exact arithmetic, no concern for speed. The tests hold the proved library to it.
 //!
 //! * [`octets`], [`published`], [`runs`]: numbers in a file, published values, the run-length rule
 //! * [`frame`], [`layout`]: which octets are an accepted file, and how any others are refused
 //! * [`calls`], [`stretches`], [`lister`]: document 01's calls and the text of the list
 //! * [`maker`], [`shapes`], [`scene`], [`cases`], [`spoil`]: made files, random sound ones, weather, files with their verdicts,
 //!   spoiled files
+//! * [`index`]: a record for each ray, and the ray calls by a record, with their own cases and shapes
 //! * [`dual`]: the second format, dual-polarisation files, with all of the above for itself
 //! * [`exact`]: whole numbers of any size, and floats as what they are exactly
 //! * [`samples`]: what samples/ and the two programs' crates store
@@ -15,6 +16,7 @@ pub mod cases;
 pub mod dual;
 pub mod exact;
 pub mod frame;
+pub mod index;
 pub mod layout;
 pub mod lister;
 pub mod maker;

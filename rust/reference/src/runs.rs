@@ -12,6 +12,8 @@ pub struct Run {
     pub level: u8,
     /// How many bins; the greatest number of its type stands for anything longer.
     pub length: u128,
+    /// How many octets write it.
+    pub octets: usize,
 }
 
 /// 1 + the sum of digit k times B^k.
@@ -26,13 +28,20 @@ fn length(digits: &[u8], v: u8) -> u128 {
     sum
 }
 
-/// The runs that octets write under V, or none where the first octet is above V and opens no run.
-pub fn runs(octets: &[u8], v: u8) -> Option<Vec<Run>> {
+/// The runs that octets write under V, or none where the first octet is above V and opens no run. A run's octets are looked at
+/// when it is asked for.
+pub fn each_run(octets: &[u8], v: u8) -> Option<impl Iterator<Item = Run> + '_> {
     if octets.first().is_some_and(|first| *first > v) {
         return None;
     }
     // each run is one octet up to V, and the octets above V that follow it
-    Some(octets.chunk_by(|_, next| *next > v).map(|run| Run { level: run[0], length: length(&run[1..], v) }).collect())
+    let run = move |run: &[u8]| Run { level: run[0], length: length(&run[1..], v), octets: run.len() };
+    Some(octets.chunk_by(move |_, next| *next > v).map(run))
+}
+
+/// All those runs.
+pub fn runs(octets: &[u8], v: u8) -> Option<Vec<Run>> {
+    each_run(octets, v).map(Iterator::collect)
 }
 
 /// The runs of octets that write exactly n levels under V, or refusal 8.
