@@ -81,7 +81,7 @@ impl<'a> Format<'a> for Dual {
         self.grid.check_points(s, 6)
     }
 
-    fn section_7(&self, s: &'a [u8]) -> Result<Cut<'a>, u32> {
+    fn section_7(&self, s: &'a [u8], _: usize) -> Result<Cut<'a>, u32> {
         let Dual { grid, packing } = *self;
         let data = &s[5..];
         if data.len() != grid.bins * grid.rays * packing.octets_a_cell {

@@ -45,10 +45,13 @@ pub struct Cut<'a> {
     pub elevation: Option<i64>,
     pub v: u8,
     pub data: &'a [u8],
+    /// where its section 7 starts
+    pub place: usize,
 }
 
+/// With its data checked, or with every other check.
 #[derive(Default)]
-struct Base {
+struct Base<const DATA: bool> {
     grid: Grid,
     azimuth: u16,
     product: u8,
@@ -57,7 +60,7 @@ struct Base {
     v: u8,
 }
 
-impl<'a> Format<'a> for Base {
+impl<'a, const DATA: bool> Format<'a> for Base<DATA> {
     type Cut = Cut<'a>;
 
     fn section_3(&mut self, s: &[u8]) -> Result<(), u32> {
@@ -109,24 +112,34 @@ impl<'a> Format<'a> for Base {
         Ok(())
     }
 
-    fn section_7(&self, s: &'a [u8]) -> Result<Cut<'a>, u32> {
+    fn section_7(&self, s: &'a [u8], place: usize) -> Result<Cut<'a>, u32> {
         if s.len() < 6 {
             return Err(4);
         }
         let Base { grid, azimuth, mode, elevation, v, .. } = *self;
         let data = &s[5..];
-        if !runs::gives(data, v, grid.bins * grid.rays) {
+        if DATA && !runs::gives(data, v, grid.bins * grid.rays) {
             return Err(8);
         }
-        Ok(Cut { grid, azimuth, mode, elevation, v, data })
+        Ok(Cut { grid, azimuth, mode, elevation, v, data, place })
     }
 }
 
 pub fn open(file: &[u8]) -> Answer<Opened> {
-    frame::open::<Base>(file)
+    frame::open::<Base<true>>(file)
 }
 
 /// The product, and the cut asked for.
 pub fn cut(file: &[u8], cut: usize) -> Answer<(u8, Cut<'_>)> {
-    frame::cut::<Base>(file, cut)
+    frame::cut::<Base<true>>(file, cut)
+}
+
+/// The product, and all cuts.
+pub fn cuts(file: &[u8]) -> Answer<(u8, Vec<Cut<'_>>)> {
+    frame::cuts::<Base<true>>(file)
+}
+
+/// The product, and the cut asked for, after every check but 8.
+pub fn unchecked_cut(file: &[u8], cut: usize) -> Answer<(u8, Cut<'_>)> {
+    frame::cut::<Base<false>>(file, cut)
 }

@@ -96,12 +96,12 @@ pub trait Format<'a>: Default {
     /// Product and site, which are those of the first cut.
     fn section_4(&mut self, s: &[u8]) -> Result<(u8, u16), u32>;
     fn section_5(&mut self, s: &[u8]) -> Result<(), u32>;
-    /// The cut that this section ends.
-    fn section_7(&self, s: &'a [u8]) -> Result<Self::Cut, u32>;
+    /// The cut that this section ends, which starts at `place`.
+    fn section_7(&self, s: &'a [u8], place: usize) -> Result<Self::Cut, u32>;
 }
 
-/// All the checks of a file, and the cut asked for.
-pub fn walk<'a, F: Format<'a>>(file: &'a [u8], wanted: usize) -> Answer<(Opened, Option<F::Cut>)> {
+/// All the checks of a file. Each cut is handed on with its number, while those after it are still to be checked.
+pub fn walk<'a, F: Format<'a>>(file: &'a [u8], mut on_cut: impl FnMut(usize, F::Cut)) -> Answer<Opened> {
     if !(20..=8_388_608).contains(&file.len()) {
         return Err(Refusal(1, 0));
     }
@@ -112,7 +112,7 @@ pub fn walk<'a, F: Format<'a>>(file: &'a [u8], wanted: usize) -> Answer<(Opened,
     let (body, tail) = file.split_at(file.len() - 4);
     let (mut place, mut last, mut cuts) = (16, 0, 0);
     let (mut time, mut format) = ([0; 6], F::default());
-    let (mut first, mut found) = (None, None);
+    let mut first = None;
     while place < body.len() {
         let refuse = |number| Refusal(number, place as u64);
         let rest = &body[place..];
@@ -145,10 +145,7 @@ pub fn walk<'a, F: Format<'a>>(file: &'a [u8], wanted: usize) -> Answer<(Opened,
             5 => format.section_5(section).map_err(refuse)?,
             6 => section_6(section).map_err(refuse)?,
             _ => {
-                let cut = format.section_7(section).map_err(refuse)?;
-                if cuts == wanted {
-                    found = Some(cut);
-                }
+                on_cut(cuts, format.section_7(section, place).map_err(refuse)?);
                 cuts += 1;
             }
         }
@@ -156,17 +153,29 @@ pub fn walk<'a, F: Format<'a>>(file: &'a [u8], wanted: usize) -> Answer<(Opened,
         last = number;
     }
     match first {
-        Some((product, site)) if last == 7 && tail == b"7777" => Ok((Opened { product, time, site, cuts }, found)),
+        Some((product, site)) if last == 7 && tail == b"7777" => Ok(Opened { product, time, site, cuts }),
         _ => Err(Refusal(3, place as u64)),
     }
 }
 
 pub fn open<'a, F: Format<'a>>(file: &'a [u8]) -> Answer<Opened> {
-    walk::<F>(file, usize::MAX).map(|(opened, _)| opened)
+    walk::<F>(file, |_, _| ())
 }
 
 /// The product, and the cut asked for.
 pub fn cut<'a, F: Format<'a>>(file: &'a [u8], cut: usize) -> Answer<(u8, F::Cut)> {
-    let (opened, found) = walk::<F>(file, cut)?;
+    let mut found = None;
+    let opened = walk::<F>(file, |k, of_file| {
+        if k == cut {
+            found = Some(of_file);
+        }
+    })?;
     found.map(|cut| (opened.product, cut)).ok_or(Refusal(10, 0))
+}
+
+/// The product, and all cuts.
+pub fn cuts<'a, F: Format<'a>>(file: &'a [u8]) -> Answer<(u8, Vec<F::Cut>)> {
+    let mut cuts = Vec::new();
+    let opened = walk::<F>(file, |_, cut| cuts.push(cut))?;
+    Ok((opened.product, cuts))
 }

@@ -2,9 +2,12 @@
 use crate::{Answer, Refusal};
 
 const MOST_LEVELS: usize = 2_097_152;
+/// A digit's weight grows no further: no count of bins reaches it, nor does a record's with a ray's bins after it. As many digits
+/// as a file has octets still add up in 64 bits.
+const MOST_WEIGHT: usize = 1 << 33;
 
-/// The runs of octets, as (level, length): the octets are known to open with a level, and lengths stop growing past
-/// [`MOST_LEVELS`].
+/// The runs of octets, as (level, length): the octets are known to open with a level, and lengths past [`MOST_WEIGHT`] are not
+/// exact.
 pub struct Runs<'a> {
     octets: &'a [u8],
     v: u8,
@@ -13,6 +16,11 @@ pub struct Runs<'a> {
 impl<'a> Runs<'a> {
     pub fn new(octets: &'a [u8], v: u8) -> Self {
         Runs { octets, v }
+    }
+
+    /// How many octets are still to be read.
+    pub fn left(&self) -> usize {
+        self.octets.len()
     }
 }
 
@@ -29,7 +37,7 @@ impl Iterator for Runs<'_> {
                 break;
             }
             length += usize::from(digit - self.v - 1) * weight;
-            weight = (weight * base).min(MOST_LEVELS);
+            weight = (weight * base).min(MOST_WEIGHT);
             rest = after;
         }
         self.octets = rest;

@@ -1,10 +1,11 @@
 //! The yardstick does what the independent reader does: else its times would say nothing.
 use plain::frame::{Grid, Opened};
+use plain::index::Record;
 use plain::{Answer, Refusal};
 use reference::frame::Circle;
-use reference::layout::verdict;
+use reference::layout::{unchecked, verdict};
 use reference::numbers::Numbers;
-use reference::{calls, cases, dual, lister, runs, shapes, spoil, stretches};
+use reference::{calls, cases, dual, index, lister, runs, shapes, spoil, stretches};
 
 fn told<T>(answer: Result<T, reference::Refusal>) -> Answer<T> {
     answer.map_err(|r| Refusal(r.number, r.place))
@@ -104,6 +105,77 @@ fn dual_files_agree() {
             let (ray, bin) = (n.below(7), n.below(13));
             let found = plain::dual::bin_value(&file, k, ray, bin).map(|value| value.map(f64::to_bits));
             assert_eq!(found, told(dual::calls::bin_value(&file, k, ray, bin)).map(|value| value.map(f64::to_bits)));
+        }
+    }
+}
+
+fn record(record: reference::index::Record) -> Record {
+    Record { offset: record.offset, before: record.before }
+}
+
+/// One call by a record on both sides, with rooms of `room` and of the values' own.
+fn by_record(file: &[u8], (cut, ray): (usize, usize), at: reference::index::Record, room: usize, values_room: usize) {
+    let (mut ours, mut theirs) = (vec![7; room], vec![7; room]);
+    let found = plain::index::ray_levels(file, cut, ray, record(at), &mut ours);
+    assert_eq!(found, told(index::ray_levels_from(file, cut, ray, at, &mut theirs)), "cut {cut}, ray {ray}, {at:?}");
+    assert_eq!(ours, theirs);
+    let (mut values, mut values_too) = (vec![7; values_room], vec![7; values_room]);
+    let found = plain::index::ray_values(file, cut, ray, record(at), &mut ours, &mut values);
+    assert_eq!(found, told(index::ray_values_from(file, cut, ray, at, &mut theirs, &mut values_too)), "cut {cut}, ray {ray}, {at:?}");
+    assert_eq!((ours, values), (theirs, values_too));
+}
+
+#[test]
+fn indexes_agree() {
+    let mut n = Numbers::new(4);
+    for case in index::cases::all() {
+        by_record(&case.file, (case.cut, case.ray), case.record, case.room, case.room);
+    }
+    for round in 0..3000 {
+        let mut file = index::shapes::random_unchecked_plan(3, 12, 6, &mut n).file();
+        if round % 4 == 0 {
+            spoil::spoil(&mut file, &mut n);
+        }
+        for k in 0..4 {
+            let room = n.below(9);
+            let (mut ours, mut theirs) = (vec![Record { offset: 7, before: 7 }; room], vec![index::Record { offset: 7, before: 7 }; room]);
+            assert_eq!(plain::index::build(&file, k, &mut ours), told(index::build_index(&file, k, &mut theirs)));
+            assert_eq!(ours, theirs.into_iter().map(record).collect::<Vec<_>>());
+            let Some(cut) = unchecked(&file).ok().and_then(|file| file.cuts.get(k).copied()) else { continue };
+            for _ in 0..8 {
+                let at = index::shapes::random_record(&cut, &mut n);
+                by_record(&file, (k, n.below(7)), at, n.within(cut.grid.bins - 1, 13), n.within(cut.grid.bins - 1, 13));
+            }
+        }
+    }
+}
+
+#[test]
+fn all_rays_agree() {
+    let mut n = Numbers::new(5);
+    for round in 0..300 {
+        let mut file = shapes::random_plan(4, 12, 6, &mut n).file();
+        if round % 5 == 0 {
+            spoil::spoil(&mut file, &mut n);
+        }
+        let (mut levels, mut marks, mut values) = (vec![7; 300], vec![7; 300], vec![7; 300]);
+        let found = plain::rays::all_levels(&file, &mut levels);
+        assert_eq!(found, plain::rays::all_values(&file, &mut marks, &mut values));
+        assert_eq!(found, told(verdict(&file)).map(|_| ()));
+        let (mut expected, mut expected_marks, mut expected_values) = (vec![7; 300], vec![7; 300], vec![7; 300]);
+        let mut at = 0;
+        for (k, cut) in verdict(&file).map_or(vec![], |accepted| accepted.cuts).iter().enumerate() {
+            for ray in 0..cut.grid.rays {
+                calls::ray_levels(&file, k, ray, &mut expected[at..]).unwrap();
+                calls::ray_values(&file, k, ray, &mut expected_marks[at..], &mut expected_values[at..]).unwrap();
+                at += cut.grid.bins;
+            }
+        }
+        assert_eq!((levels, marks, values), (expected, expected_marks, expected_values));
+        if found.is_ok() {
+            let short = plain::rays::all_levels(&file, &mut vec![7; at - 1]);
+            assert_eq!(short, Err(Refusal(11, 0)));
+            assert_eq!(plain::rays::all_values(&file, &mut vec![7; at], &mut vec![7; at - 1]), short);
         }
     }
 }

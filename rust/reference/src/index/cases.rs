@@ -119,19 +119,16 @@ impl Cases {
         let followed = [&run[..], &[8, 9, 10, 11]].concat();
         self.data("3^20 bins and more", 252, &followed, &[(0, last, Some([7, 8, 9, 10, 11])), (0, last + 1, None), (0, u32::MAX, None)]);
         let greatest = u32::MAX;
-        let ends: [(&str, u128, [Option<[u8; 5]>; 2]); 5] = [
-            ("2^32 - 1", (1 << 32) - 1, [Some([7, 8, 8, 8, 8]), None]),
-            ("2^32", 1 << 32, [Some([7, 7, 8, 8, 8]), Some([7, 8, 8, 8, 8])]),
-            ("2^32 + 1", (1 << 32) + 1, [Some([7, 7, 7, 8, 8]), Some([7, 7, 8, 8, 8])]),
-            ("2^64 + 2", (1 << 64) + 2, [Some([7; 5]), Some([7; 5])]),
-            ("2^127", 1 << 127, [Some([7; 5]), Some([7; 5])]),
-        ];
+        let ends: [(&str, u128); 5] =
+            [("2^32 - 1", (1 << 32) - 1), ("2^32", 1 << 32), ("2^32 + 1", (1 << 32) + 1), ("2^64 + 2", (1 << 64) + 2), ("2^127", 1 << 127)];
+        // what the greatest two records leave of each, 5 for five and more
+        let left = [[1, 0], [2, 1], [3, 2], [5, 5], [5, 5]];
+        let bins = |left: usize| (left > 0).then(|| std::array::from_fn(|bin| if bin < left { 7 } else { 8 }));
         for v in [8, 9, 100, 251, 252] {
-            for (name, length, [one_less, most]) in ends {
-                let mut data = long_run(7, length - 1, v);
-                data.extend([8; 4]);
-                let name = format!("{name} bins, V {v}");
-                self.data(&name, v, &data, &[(0, 0, Some([7; 5])), (0, greatest - 1, one_less), (0, greatest, most)]);
+            for ((name, length), [one_less, most]) in ends.into_iter().zip(left) {
+                let data = [long_run(7, length - 1, v), vec![8; 4]].concat();
+                let records = [(0, 0, Some([7; 5])), (0, greatest - 1, bins(one_less)), (0, greatest, bins(most))];
+                self.data(&format!("{name} bins, V {v}"), v, &data, &records);
             }
             let endless = [vec![7], vec![255; 10_000]].concat();
             self.data(&format!("digits on and on, V {v}"), v, &endless, &[(0, 0, Some([7; 5])), (0, greatest, Some([7; 5])), (1, 0, None)]);
