@@ -16,7 +16,8 @@
  *
  * Every call on a file is lent the whole file and makes all its checks itself, in this order: 1, 2, then section by
  * section 3, 9, 4, 5, 6, 7, 12, 8; then 10; then 11. Values are in hundredths: of dBZ for reflectivity, of m/s for velocity.
- * On a dual-polarisation file the order is 1, 2, then section by section 3, 9, 4, 5, 14, 6; then 10.
+ * The calls by a record, polar_ray_levels_from and polar_ray_values_from, look at no data but the ray's: they leave out 12 and
+ * 8, and after 11 comes 13. On a dual-polarisation file the order is 1, 2, then section by section 3, 9, 4, 5, 14, 6; then 10.
  */
 #ifndef POLAR_H
 #define POLAR_H
@@ -41,6 +42,7 @@ extern "C" {
 #define POLAR_ARGUMENT 10u      /* an argument is outside its range */
 #define POLAR_ROOM 11u          /* the lent room is too short */
 #define POLAR_V 12u             /* V is over 253 */
+#define POLAR_RECORD 13u        /* a record does not fit the data, or the data ends before the ray does */
 #define POLAR_UNREAD 14u        /* R infinite or not a number, a width other than 8 or 16, or a scan other than PPI */
 
 #define POLAR_REFLECTIVITY 1u
@@ -111,6 +113,40 @@ uint32_t polar_ray_levels(const uint8_t *file, size_t len, size_t cut, size_t ra
  */
 uint32_t polar_ray_values(const uint8_t *file, size_t len, size_t cut, size_t ray, uint8_t *marks, size_t marks_room,
                           int32_t *values, size_t values_room, uint64_t place[1]);
+
+/*
+ * A record says where a ray begins in its cut's data, which is section 7 from octet 6 on: the offset in the data of the level
+ * octet whose run holds the ray's first bin, and how many bins of that run came before. It is two words and nothing else.
+ */
+typedef struct {
+    uint32_t offset;
+    uint32_t before;
+} polar_ray_record;
+
+/*
+ * Build index: writes a record for each ray of a cut, 0 to Nr - 1, at the front of `records`, which has room for `room`
+ * records.
+ * Refusal 10: cut. Refusal 11: room under Nr.
+ */
+uint32_t polar_build_index(const uint8_t *file, size_t len, size_t cut, polar_ray_record *records, size_t room,
+                           uint64_t place[1]);
+
+/*
+ * Ray levels by a record, given as its two words: writes the Nb levels that decoding from there gives at the front of
+ * `levels`. With the record that polar_build_index wrote for this file, cut and ray, they are those of polar_ray_levels. The
+ * ray is tested for refusal 10 and takes no other part.
+ * Refusal 10: cut, ray. Refusal 11: room under Nb. Refusal 13, at the cut's section 7: the offset lies outside the data; the
+ * octet there is above V; `before` is not under the run's length; the data ends before Nb bins.
+ */
+uint32_t polar_ray_levels_from(const uint8_t *file, size_t len, size_t cut, size_t ray, uint32_t offset, uint32_t before,
+                               uint8_t *levels, size_t room, uint64_t place[1]);
+
+/*
+ * Ray values by a record: writes marks and values as polar_ray_values does, of the bins of polar_ray_levels_from.
+ * Refusal 10: cut, ray. Refusal 11: either room under Nb. Refusal 13: as there.
+ */
+uint32_t polar_ray_values_from(const uint8_t *file, size_t len, size_t cut, size_t ray, uint32_t offset, uint32_t before,
+                               uint8_t *marks, size_t marks_room, int32_t *values, size_t values_room, uint64_t place[1]);
 
 /*
  * Bin value: sets *value to the value, the whole hundredths taken over exactly and divided once by 100, where the bin is

@@ -1,6 +1,6 @@
 //! The one boundary to the proved library: each of its C functions as a safe function on slices, in the words of
-//! `include/polar.h`. Nothing else in this workspace is unsafe. A test holds [`DECLARATIONS`] to the header and to the
-//! library's source.
+//! `include/polar.h`. Nothing else in this workspace is unsafe. Tests hold [`DECLARATIONS`] and [`SHAPES`] to the
+//! header and to the library's source.
 //!
 //! Each function returns 0, or the refusal's number. The first word of an answer is always set: the refusal's
 //! place, and 0 where nothing is refused. Its other words, and what lent buffers hold, change only where nothing is refused.
@@ -28,6 +28,36 @@ macro_rules! declare {
     };
 }
 
+/// A struct of both sides, as text.
+pub struct Shape {
+    pub name: &'static str,
+    /// names and types
+    pub fields: &'static [(&'static str, &'static str)],
+}
+
+macro_rules! shape {
+    ($(#[$about:meta])* struct $name:ident { $($(#[$about_field:meta])* $field:ident: $type:ty,)* }) => {
+        $(#[$about])*
+        #[repr(C)]
+        #[derive(Debug, Clone, Copy, Default, PartialEq, Eq, Hash)]
+        pub struct $name {
+            $($(#[$about_field])* pub $field: $type,)*
+        }
+        /// Every struct that this boundary is linked by.
+        pub const SHAPES: &[Shape] = &[Shape { name: stringify!($name), fields: &[$((stringify!($field), stringify!($type))),*] }];
+    };
+}
+
+shape! {
+    /// Where a ray begins in its cut's data, which is section 7 from octet 6 on.
+    struct RayRecord {
+        /// The offset in the data of the level octet whose run holds the ray's first bin.
+        offset: u32,
+        /// How many bins of that run came before.
+        before: u32,
+    }
+}
+
 declare! {
     fn polar_run_check(octets: *const u8, octets_len: usize, v: u8, n: usize) -> u32;
     fn polar_run_read(octets: *const u8, octets_len: usize, v: u8, n: usize, levels: *mut u8, room: usize, place: *mut [u64; 1]) -> u32;
@@ -36,6 +66,9 @@ declare! {
     fn polar_cut(file: *const u8, len: usize, cut: usize, answer: *mut [i64; 11]) -> u32;
     fn polar_ray_levels(file: *const u8, len: usize, cut: usize, ray: usize, levels: *mut u8, room: usize, place: *mut [u64; 1]) -> u32;
     fn polar_ray_values(file: *const u8, len: usize, cut: usize, ray: usize, marks: *mut u8, marks_room: usize, values: *mut i32, values_room: usize, place: *mut [u64; 1]) -> u32;
+    fn polar_build_index(file: *const u8, len: usize, cut: usize, records: *mut RayRecord, room: usize, place: *mut [u64; 1]) -> u32;
+    fn polar_ray_levels_from(file: *const u8, len: usize, cut: usize, ray: usize, offset: u32, before: u32, levels: *mut u8, room: usize, place: *mut [u64; 1]) -> u32;
+    fn polar_ray_values_from(file: *const u8, len: usize, cut: usize, ray: usize, offset: u32, before: u32, marks: *mut u8, marks_room: usize, values: *mut i32, values_room: usize, place: *mut [u64; 1]) -> u32;
     fn polar_bin_value(file: *const u8, len: usize, cut: usize, ray: usize, bin: usize, value: *mut f64, answer: *mut [u64; 2]) -> u32;
     fn polar_stretches(file: *const u8, len: usize, cut: usize, t: i32, ray: usize, bin: usize, words: *mut u32, room: usize, answer: *mut [u64; 4]) -> u32;
     fn polar_house_stretches(file: *const u8, len: usize, cut: usize, ray: usize, bin: usize, words: *mut u32, room: usize, answer: *mut [u64; 4]) -> u32;
@@ -45,7 +78,8 @@ declare! {
 }
 
 // Each call below hands on a slice as its pointer and its length, and an array as its pointer: memory that is there for as
-// long as the call, and that nobody else changes meanwhile. The proved library asks nothing more of its caller.
+// long as the call, and that nobody else changes meanwhile. The proved library asks nothing more of its caller. A record's two
+// words may be any.
 
 /// What run read would find in `octets`, with nothing lent.
 #[inline]
@@ -90,6 +124,35 @@ pub fn ray_values(file: &[u8], cut: usize, ray: usize, marks: &mut [u8], values:
     unsafe {
         polar_ray_values(file.as_ptr(), file.len(), cut, ray, marks.as_mut_ptr(), marks.len(), values.as_mut_ptr(), values.len(), place)
     }
+}
+
+/// A record for each ray of a cut at the front of `records`.
+#[inline]
+pub fn build_index(file: &[u8], cut: usize, records: &mut [RayRecord], place: &mut [u64; 1]) -> u32 {
+    unsafe { polar_build_index(file.as_ptr(), file.len(), cut, records.as_mut_ptr(), records.len(), place) }
+}
+
+/// The Nb levels that decoding from a record gives, at the front of `levels`.
+#[inline]
+pub fn ray_levels_from(file: &[u8], cut: usize, ray: usize, record: RayRecord, levels: &mut [u8], place: &mut [u64; 1]) -> u32 {
+    let RayRecord { offset, before } = record;
+    unsafe { polar_ray_levels_from(file.as_ptr(), file.len(), cut, ray, offset, before, levels.as_mut_ptr(), levels.len(), place) }
+}
+
+/// The same bins' marks at the front of `marks` and, at each measured place, the value in `values`.
+#[inline]
+pub fn ray_values_from(
+    file: &[u8],
+    cut: usize,
+    ray: usize,
+    record: RayRecord,
+    marks: &mut [u8],
+    values: &mut [i32],
+    place: &mut [u64; 1],
+) -> u32 {
+    let RayRecord { offset, before } = record;
+    let (marks, marks_room, values, values_room) = (marks.as_mut_ptr(), marks.len(), values.as_mut_ptr(), values.len());
+    unsafe { polar_ray_values_from(file.as_ptr(), file.len(), cut, ray, offset, before, marks, marks_room, values, values_room, place) }
 }
 
 /// Answer: place, mark. The value is set only where the mark is 1.

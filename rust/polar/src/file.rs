@@ -1,4 +1,5 @@
 //! Files, cuts and rays.
+use crate::index::{self, RayRecord};
 use crate::stretches::Stretches;
 use crate::Refusal;
 use std::fmt;
@@ -270,7 +271,54 @@ impl<'a> Cut<'a> {
         Ok(levels)
     }
 
-    /// All its rays, in the order of the file.
+    /// Its index: for each ray where it begins in the data.
+    ///
+    /// ```
+    /// use polar::{File, RayRecord};
+    ///
+    /// let file = File::open(include_bytes!("../../../samples/document01.bin"))?;
+    /// // ray 1 begins in the run that the octet at 2 opens, and three bins of that run are ray 0's
+    /// assert_eq!(file.cut(0)?.records(), [RayRecord { offset: 0, before: 0 }, RayRecord { offset: 2, before: 3 }]);
+    /// # Ok::<(), polar::Refusal>(())
+    /// ```
+    pub fn records(&self) -> Vec<RayRecord> {
+        let mut records = vec![RayRecord::default(); self.rays];
+        index::records(self.file.octets, self.index, &mut records).expect("a cut of an accepted file");
+        records
+    }
+
+    /// One ray, read from a record on. With the record of this ray it is what [`ray`](Cut::ray) gives, and the rays before it
+    /// are not read; with any other it is what decoding from there gives, or [`Reason::Record`](crate::Reason::Record).
+    /// [`Reason::Argument`](crate::Reason::Argument) where there is no ray of this index.
+    ///
+    /// ```
+    /// let file = polar::File::open(include_bytes!("../../../samples/ridge.bin"))?;
+    /// let cut = file.cut(0)?;
+    /// let records = cut.records();
+    /// assert_eq!(cut.ray_from(500, records[500])?, cut.ray(500)?);
+    /// # Ok::<(), polar::Refusal>(())
+    /// ```
+    pub fn ray_from(&self, index: usize, record: RayRecord) -> Result<Ray, Refusal> {
+        let (mut marks, mut values) = (vec![0; self.bins], vec![0; self.bins]);
+        index::ray_values(self.file.octets, self.index, index, record, &mut marks, &mut values)?;
+        Ok(Ray { index, marks, values })
+    }
+
+    /// The levels of one ray, read from a record on, as [`ray_from`](Cut::ray_from) its values.
+    ///
+    /// ```
+    /// let file = polar::File::open(include_bytes!("../../../samples/document01.bin"))?;
+    /// let cut = file.cut(0)?;
+    /// assert_eq!(cut.ray_levels_from(1, cut.records()[1])?, [130, 1, 1, 1, 0]);
+    /// # Ok::<(), polar::Refusal>(())
+    /// ```
+    pub fn ray_levels_from(&self, index: usize, record: RayRecord) -> Result<Vec<u8>, Refusal> {
+        let mut levels = vec![0; self.bins];
+        index::ray_levels(self.file.octets, self.index, index, record, &mut levels)?;
+        Ok(levels)
+    }
+
+    /// All its rays, in the order of the file, by records that are built once.
     ///
     /// ```
     /// let file = polar::File::open(include_bytes!("../../../samples/document01.bin"))?;
@@ -279,7 +327,7 @@ impl<'a> Cut<'a> {
     /// # Ok::<(), polar::Refusal>(())
     /// ```
     pub fn rays(&self) -> Rays<'a> {
-        Rays { cut: *self, left: 0..self.rays }
+        Rays { cut: *self, records: self.records(), left: 0..self.rays }
     }
 
     /// The value of one bin in dBZ or m/s, or none where it is missing;
@@ -334,6 +382,7 @@ impl Ray {
 #[derive(Debug, Clone)]
 pub struct Rays<'a> {
     cut: Cut<'a>,
+    records: Vec<RayRecord>,
     left: Range<usize>,
 }
 
@@ -341,7 +390,7 @@ impl Iterator for Rays<'_> {
     type Item = Ray;
 
     fn next(&mut self) -> Option<Ray> {
-        self.left.next().map(|index| self.cut.ray(index).expect("a ray of an accepted file"))
+        self.left.next().map(|index| self.cut.ray_from(index, self.records[index]).expect("a ray of an accepted file"))
     }
 
     fn size_hint(&self) -> (usize, Option<usize>) {

@@ -25,18 +25,21 @@
 //!
 //! Every call to the library is lent the whole file and makes all its checks again, so a call's time grows with the file.
 //! Take what is wanted from few calls: a ray's values at once instead of bin by bin, and a cut's stretches instead of its
-//! rays.
+//! rays. [All rays](Cut::rays) of a cut go by an [`index`], which a call by a record makes use of: it reads no data but its
+//! ray's.
 #![forbid(unsafe_code)]
 #![warn(missing_docs)]
 
 pub mod dual;
 mod file;
 mod format;
+pub mod index;
 mod refusal;
 pub mod runs;
 mod stretches;
 
 pub use file::{Cut, Cuts, File, Product, Ray, Rays, Time};
 pub use format::Format;
+pub use index::RayRecord;
 pub use refusal::{Reason, Refusal};
 pub use stretches::{Kind, Stretch, Stretches, HOUSE_THRESHOLD};

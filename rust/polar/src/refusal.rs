@@ -1,4 +1,4 @@
-//! Refusals: document 01's numbers and wish 6's, by name.
+//! Refusals: document 01's numbers and those of wishes 4 and 6, by name.
 use std::error::Error;
 use std::fmt;
 
@@ -29,13 +29,16 @@ pub enum Reason {
     Room = 11,
     /// 12: V is over 253.
     V = 12,
+    /// 13: a record's offset lies outside the data, the octet there is above V, its earlier bins reach the run's length, or the
+    /// data ends before the ray does.
+    Record = 13,
     /// 14: a dual-polarisation file of a kind that is not read: R is infinite or not a number, a cell's width is neither 8
     /// nor 16 bits, or the scan is not a turn at one elevation (PPI).
     Unread = 14,
 }
 
 impl Reason {
-    const ALL: [Reason; 13] = [
+    const ALL: [Reason; 14] = [
         Reason::FileSize,
         Reason::SectionZero,
         Reason::Sections,
@@ -48,10 +51,11 @@ impl Reason {
         Reason::Argument,
         Reason::Room,
         Reason::V,
+        Reason::Record,
         Reason::Unread,
     ];
 
-    /// Its number: 1 to 12 by document 01, and 14.
+    /// Its number, 1 to 14.
     pub fn number(self) -> u32 {
         self as u32
     }
@@ -73,6 +77,7 @@ impl Reason {
             Reason::Argument => "a number that was asked for is outside its range",
             Reason::Room => "the room for the answer is too short",
             Reason::V => "the greatest level of packed data is over 253",
+            Reason::Record => "the record is none of this cut's: no ray can be read from where it points",
             Reason::Unread => {
                 "this kind of dual-polarisation file is not read: its reference value is no number, its cells are neither 8 nor 16 bits \
                  wide, or its scan is not a turn at one elevation"
@@ -103,7 +108,7 @@ impl Refusal {
         self.reason
     }
 
-    /// Its number: 1 to 12 by document 01, and 14.
+    /// Its number, 1 to 14.
     pub fn number(self) -> u32 {
         self.reason.number()
     }
@@ -128,7 +133,7 @@ mod tests {
 
     #[test]
     fn numbers_and_reasons_belong_together() {
-        for (reason, number) in Reason::ALL.into_iter().zip((1..=12).chain([14])) {
+        for (reason, number) in Reason::ALL.into_iter().zip(1..=14) {
             assert_eq!(reason.number(), number);
             assert_eq!(Refusal::check(number, 7), Err(Refusal { reason, place: 7 }));
         }

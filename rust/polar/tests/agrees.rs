@@ -1,6 +1,8 @@
 //! The safe crate against the independent reader: what it makes of the library's answers.
-use polar::{File, Kind, Product};
-use reference::layout::verdict;
+use polar::{index, File, Kind, Product, RayRecord, Reason};
+use reference::index::shapes::{random_record, random_unchecked_plan};
+use reference::index::{cases as records, Record};
+use reference::layout::{unchecked, verdict};
 use reference::maker::{CutPlan, Plan};
 use reference::numbers::Numbers;
 use reference::shapes::random_plan;
@@ -53,6 +55,7 @@ fn made_files() {
                 let expected: Vec<Option<i32>> = of_cut.ray(ray.index()).iter().map(|level| accepted.product.value(*level)).collect();
                 assert_eq!(ray.values().collect::<Vec<_>>(), expected);
                 assert_eq!(cut.ray_levels(ray.index()).unwrap(), of_cut.ray(ray.index()));
+                assert_eq!(cut.ray(ray.index()).unwrap(), ray);
                 let bin = n.below(grid.bins);
                 assert_eq!(cut.value(ray.index(), bin).unwrap(), expected[bin].map(|value| f64::from(value) / 100.0));
                 assert_eq!((ray.value(bin), ray.value(grid.bins)), (expected[bin], None));
@@ -72,4 +75,59 @@ fn a_long_list() {
     let expected = list(&verdict(&octets).unwrap().cuts[0], published::Product::Reflectivity, 4000);
     assert!(expected.len() > 100_000);
     assert!(entries(&file.cut(0).unwrap(), 4000) == expected);
+}
+
+fn ray_record(Record { offset, before }: Record) -> RayRecord {
+    RayRecord { offset, before }
+}
+
+/// By an accepted file's own records every ray is what the plain calls say; one past the last is refused.
+#[test]
+fn records_of_made_files() {
+    let mut n = Numbers::new(85);
+    for _ in 0..200 {
+        let octets = random_plan(3, 20, 8, &mut n).file();
+        let (file, accepted) = (File::open(&octets).unwrap(), verdict(&octets).unwrap());
+        for (cut, of_cut) in file.cuts().zip(&accepted.cuts) {
+            let index: Vec<RayRecord> = of_cut.index().into_iter().map(ray_record).collect();
+            assert_eq!(cut.records(), index);
+            for (ray, record) in index.iter().enumerate() {
+                assert_eq!(cut.ray_from(ray, *record), cut.ray(ray));
+                assert_eq!(cut.ray_levels_from(ray, *record), cut.ray_levels(ray));
+            }
+            let past = cut.ray_count();
+            assert_eq!(cut.ray_from(past, index[0]).unwrap_err().reason(), Reason::Argument);
+            assert_eq!(cut.ray_levels_from(past, index[0]).unwrap_err().reason(), Reason::Argument);
+            let mut room = vec![RayRecord { offset: 9, before: 9 }; past - 1];
+            let refusal = index::records(&octets, cut.index(), &mut room).unwrap_err();
+            assert_eq!((refusal.reason(), room), (Reason::Room, vec![RayRecord { offset: 9, before: 9 }; past - 1]));
+        }
+    }
+}
+
+/// Any record, on octets whose data need not be accepted.
+#[test]
+fn any_record() {
+    for case in records::all() {
+        let mut levels = vec![9; case.room];
+        let found = index::ray_levels(&case.file, case.cut, case.ray, ray_record(case.record), &mut levels);
+        let expected = case.answer.as_ref().map(|_| ()).map_err(|(number, place)| (*number, *place as u64));
+        assert_eq!(found.map_err(|refusal| (refusal.number(), refusal.place())), expected, "{}", case.name);
+        assert!(case.answer.is_err() || levels.starts_with(&case.answer.unwrap()), "{}", case.name);
+    }
+    let mut n = Numbers::new(86);
+    let mut by_record = 0;
+    for _ in 0..2000 {
+        let octets = random_unchecked_plan(2, 8, 4, &mut n).file();
+        let but_8 = unchecked(&octets).unwrap();
+        let (k, ray) = (n.below(but_8.cuts.len()), n.below(5));
+        let record = random_record(&but_8.cuts[k], &mut n);
+        let (mut marks, mut values, mut marks_too, mut values_too) = ([9; 8], [9; 8], [9; 8], [9; 8]);
+        let found = index::ray_values(&octets, k, ray, ray_record(record), &mut marks, &mut values);
+        let expected = but_8.ray_values_from(k, ray, record, &mut marks_too, &mut values_too);
+        assert_eq!(found.map_err(|r| (r.number(), r.place())), expected.map_err(|r| (r.number, r.place)));
+        assert_eq!((marks, values), (marks_too, values_too));
+        by_record += usize::from(found.is_err_and(|refusal| refusal.reason() == Reason::Record));
+    }
+    assert!(by_record > 400, "{by_record}");
 }
