@@ -1,10 +1,13 @@
 //! One call on both sides: the same answer or refusal, and every element of every lent buffer the same after it.
 use crate::lent::Lent;
 use crate::ours;
-use reference::layout::{verdict, Accepted};
+use polar_sys::RayRecord;
+use reference::index::Record;
+use reference::layout::{unchecked, verdict, Accepted, Unchecked};
 use reference::runs::{self, Written};
 use reference::stretches::{list, portion, Entry, Portion, HOUSE_THRESHOLD};
 use reference::Refusal;
+use std::cell::OnceCell;
 
 /// Octets for a message, the first of them if they are many.
 pub(crate) fn shown(octets: &[u8]) -> String {
@@ -41,11 +44,17 @@ pub fn run_write(levels: &[u8], room: usize) -> Result<Written, Refusal> {
 pub struct Compared<'a> {
     pub file: &'a [u8],
     pub verdict: Result<Accepted<'a>, Refusal>,
+    unchecked: OnceCell<Result<Unchecked<'a>, Refusal>>,
 }
 
 impl<'a> Compared<'a> {
     pub fn new(file: &'a [u8]) -> Self {
-        Compared { file, verdict: verdict(file) }
+        Compared { file, verdict: verdict(file), unchecked: OnceCell::new() }
+    }
+
+    /// The independent reader's verdict with every check but 8.
+    pub fn unchecked(&self) -> &Result<Unchecked<'a>, Refusal> {
+        self.unchecked.get_or_init(|| unchecked(self.file))
     }
 
     /// What the independent reader answers on the file, if it is accepted; else the file's refusal.
@@ -54,6 +63,11 @@ impl<'a> Compared<'a> {
             Ok(accepted) => call(accepted),
             Err(refusal) => Err(*refusal),
         }
+    }
+
+    /// The same where its data need not be.
+    fn theirs_unchecked(&self, call: impl FnOnce(&Unchecked<'a>) -> Result<(), Refusal>) -> Result<(), Refusal> {
+        self.unchecked().as_ref().map_err(|refusal| *refusal).and_then(call)
     }
 
     fn told(&self, call: &str) -> String {
@@ -89,6 +103,58 @@ impl<'a> Compared<'a> {
         assert_eq!(answer, expected, "{}", call());
         assert!(marks == their_marks, "marks differ: {}", call());
         assert!(values == their_values, "values differ: {}", call());
+    }
+
+    pub fn build_index(&self, cut: usize, room: usize) {
+        let (mut mine, mut theirs) = (Lent::new(room), Lent::new(room));
+        let answer = ours::build_index(self.file, cut, mine.room());
+        let expected = self.theirs(|file| file.build_index(cut, theirs.room()));
+        let call = || self.told(&format!("build index, cut {cut}, room {room}"));
+        assert_eq!(answer, expected, "{}", call());
+        assert!(mine == theirs.told(ours::ray_record), "records differ: {}", call());
+    }
+
+    pub fn ray_levels_from(&self, cut: usize, ray: usize, record: Record, room: usize) -> Result<(), Refusal> {
+        let (mut mine, mut theirs) = (Lent::new(room), Lent::new(room));
+        let answer = ours::ray_levels_from(self.file, cut, ray, record, mine.room());
+        let expected = self.theirs_unchecked(|file| file.ray_levels_from(cut, ray, record, theirs.room()));
+        let call = || self.told(&format!("ray levels from {record:?}, cut {cut}, ray {ray}, room {room}"));
+        assert_eq!(answer, expected, "{}", call());
+        assert!(mine == theirs, "levels differ: {}", call());
+        answer
+    }
+
+    pub fn ray_values_from(&self, cut: usize, ray: usize, record: Record, marks_room: usize, values_room: usize) {
+        let (mut marks, mut their_marks) = (Lent::new(marks_room), Lent::new(marks_room));
+        let (mut values, mut their_values) = (Lent::new(values_room), Lent::new(values_room));
+        let answer = ours::ray_values_from(self.file, cut, ray, record, marks.room(), values.room());
+        let expected = self.theirs_unchecked(|file| file.ray_values_from(cut, ray, record, their_marks.room(), their_values.room()));
+        let call = || self.told(&format!("ray values from {record:?}, cut {cut}, ray {ray}, rooms {marks_room} and {values_room}"));
+        assert_eq!(answer, expected, "{}", call());
+        assert!(marks == their_marks, "marks differ: {}", call());
+        assert!(values == their_values, "values differ: {}", call());
+    }
+
+    /// A cut's every ray by the record that the library built for it: both plain calls' answer, in all lent memory. Answers how
+    /// many rays these were.
+    pub fn by_built_records(&self, cut: usize) -> usize {
+        let grid = self.verdict.as_ref().expect("a sound file").cuts[cut].grid;
+        let mut records = vec![RayRecord::default(); grid.rays];
+        assert_eq!(ours::build_index(self.file, cut, &mut records), Ok(()));
+        for (ray, RayRecord { offset, before }) in records.into_iter().enumerate() {
+            let (record, room) = (Record { offset, before }, grid.bins + 2);
+            let call = || self.told(&format!("by its own record {record:?}, cut {cut}, ray {ray}"));
+            let (mut levels, mut plain) = (Lent::new(room), Lent::new(room));
+            assert_eq!(ours::ray_levels(self.file, cut, ray, plain.room()), Ok(()));
+            assert_eq!(ours::ray_levels_from(self.file, cut, ray, record, levels.room()), Ok(()), "{}", call());
+            assert!(levels == plain, "levels differ: {}", call());
+            let (mut marks, mut plain_marks) = (Lent::new(room), Lent::new(room));
+            let (mut values, mut plain_values) = (Lent::new(room), Lent::new(room));
+            assert_eq!(ours::ray_values(self.file, cut, ray, plain_marks.room(), plain_values.room()), Ok(()));
+            assert_eq!(ours::ray_values_from(self.file, cut, ray, record, marks.room(), values.room()), Ok(()), "{}", call());
+            assert!((marks, values) == (plain_marks, plain_values), "marks or values differ: {}", call());
+        }
+        grid.rays
     }
 
     pub fn bin_value(&self, cut: usize, ray: usize, bin: usize) {

@@ -1,4 +1,6 @@
 //! Buffers to be lent: filled with a pattern, and standing between guards, so that any store out of place shows.
+use polar_sys::RayRecord;
+use reference::index::Record;
 
 /// How many elements stand before and after what is lent.
 const GUARD: usize = 8;
@@ -26,6 +28,19 @@ impl Pattern for u32 {
     }
 }
 
+impl Pattern for RayRecord {
+    fn pattern(i: usize) -> RayRecord {
+        RayRecord { offset: u32::pattern(i), before: !u32::pattern(i) }
+    }
+}
+
+impl Pattern for Record {
+    fn pattern(i: usize) -> Record {
+        let RayRecord { offset, before } = RayRecord::pattern(i);
+        Record { offset, before }
+    }
+}
+
 #[derive(Debug, PartialEq, Eq)]
 pub struct Lent<T> {
     all: Vec<T>,
@@ -40,5 +55,10 @@ impl<T: Pattern> Lent<T> {
     pub fn room(&mut self) -> &mut [T] {
         let end = self.all.len() - GUARD;
         &mut self.all[GUARD..end]
+    }
+
+    /// The same in the other side's words.
+    pub fn told<U>(&self, words: impl Fn(T) -> U) -> Lent<U> {
+        Lent { all: self.all.iter().map(|element| words(*element)).collect() }
     }
 }

@@ -1,9 +1,10 @@
 //! The proved library's calls, answered as the independent reader answers them. Each answer is filled with a pattern first:
 //! words that a call must not set have to keep it.
-use polar_sys as library;
+use polar_sys::{self as library, RayRecord};
 use reference::calls::{CutFacts, Opened};
 use reference::dual::calls as dual;
 use reference::frame::Circle;
+use reference::index::Record;
 use reference::layout::Grid;
 use reference::published::Product;
 use reference::runs::Written;
@@ -101,6 +102,29 @@ pub fn ray_levels(file: &[u8], cut: usize, ray: usize, levels: &mut [u8]) -> Res
 pub fn ray_values(file: &[u8], cut: usize, ray: usize, marks: &mut [u8], values: &mut [i32]) -> Result<(), Refusal> {
     let mut place = [KEPT];
     let number = library::ray_values(file, cut, ray, marks, values, &mut place);
+    answered(number, place, KEPT).map(|_| ())
+}
+
+/// A record in the library's words.
+pub fn ray_record(Record { offset, before }: Record) -> RayRecord {
+    RayRecord { offset, before }
+}
+
+pub fn build_index(file: &[u8], cut: usize, records: &mut [RayRecord]) -> Result<(), Refusal> {
+    let mut place = [KEPT];
+    let number = library::build_index(file, cut, records, &mut place);
+    answered(number, place, KEPT).map(|_| ())
+}
+
+pub fn ray_levels_from(file: &[u8], cut: usize, ray: usize, record: Record, levels: &mut [u8]) -> Result<(), Refusal> {
+    let mut place = [KEPT];
+    let number = library::ray_levels_from(file, cut, ray, ray_record(record), levels, &mut place);
+    answered(number, place, KEPT).map(|_| ())
+}
+
+pub fn ray_values_from(file: &[u8], cut: usize, ray: usize, record: Record, marks: &mut [u8], values: &mut [i32]) -> Result<(), Refusal> {
+    let mut place = [KEPT];
+    let number = library::ray_values_from(file, cut, ray, ray_record(record), marks, values, &mut place);
     answered(number, place, KEPT).map(|_| ())
 }
 

@@ -1,7 +1,8 @@
-//! The boundary's declarations, include/polar.h and crates/polar_c/src/lib.rt say the same of every call.
-use polar_sys::DECLARATIONS;
+//! The boundary's declarations, include/polar.h and the library's sources say the same of every call and of every struct.
+use polar_sys::{RayRecord, DECLARATIONS, SHAPES};
 use std::collections::BTreeMap;
 use std::fs;
+use std::mem::{align_of, offset_of, size_of};
 use std::path::Path;
 
 /// A call's arguments, as name and type in Rust's words, and its result.
@@ -23,8 +24,8 @@ fn declared() -> Calls {
     DECLARATIONS.iter().map(|d| (d.name.into(), Call { arguments: arguments(d.arguments), result: d.result.into() })).collect()
 }
 
-/// The name of a C number in Rust.
-fn rust_number(c: &str) -> &'static str {
+/// The name of a C number or struct in Rust.
+fn rust_name(c: &str) -> &'static str {
     match c {
         "uint8_t" => "u8",
         "uint32_t" => "u32",
@@ -33,6 +34,7 @@ fn rust_number(c: &str) -> &'static str {
         "int64_t" => "i64",
         "size_t" => "usize",
         "double" => "f64",
+        "polar_ray_record" => "RayRecord",
         _ => panic!("a type that the boundary does not know: {c}"),
     }
 }
@@ -41,15 +43,15 @@ fn rust_number(c: &str) -> &'static str {
 fn c_argument(text: &str) -> (String, String) {
     let (kind, name) = text.trim().rsplit_once([' ', '*']).expect("a type and a name");
     if let Some((name, length)) = name.strip_suffix(']').and_then(|name| name.split_once('[')) {
-        return (name.into(), format!("*mut [{}; {length}]", rust_number(kind.trim())));
+        return (name.into(), format!("*mut [{}; {length}]", rust_name(kind.trim())));
     }
     let kind = if text.contains('*') {
         match kind.trim().strip_prefix("const ") {
-            Some(kind) => format!("*const {}", rust_number(kind.trim())),
-            None => format!("*mut {}", rust_number(kind.trim())),
+            Some(kind) => format!("*const {}", rust_name(kind.trim())),
+            None => format!("*mut {}", rust_name(kind.trim())),
         }
     } else {
-        rust_number(kind.trim()).into()
+        rust_name(kind.trim()).into()
     };
     (name.into(), kind)
 }
@@ -74,7 +76,7 @@ fn in_header() -> Calls {
         .map(|(head, arguments)| {
             let mut words = head.split_whitespace().rev();
             let (name, result) = (words.next().expect("a name"), words.next().expect("a result"));
-            (name.into(), Call { arguments: arguments.split(',').map(c_argument).collect(), result: rust_number(result).into() })
+            (name.into(), Call { arguments: arguments.split(',').map(c_argument).collect(), result: rust_name(result).into() })
         })
         .collect()
 }
@@ -118,4 +120,64 @@ fn the_library_says_the_same() {
     let kinds = |call: Call| (call.arguments.into_iter().map(|(_, kind)| kind).collect(), call.result);
     let declared: BTreeMap<String, (Vec<String>, String)> = declared().into_iter().map(|(name, call)| (name, kinds(call))).collect();
     assert_eq!(declared, in_library());
+}
+
+/// A struct's fields in order, as name and type in Rust's words, by the struct's name in Rust.
+type Structs = BTreeMap<String, Vec<(String, String)>>;
+
+fn declared_structs() -> Structs {
+    let fields = |all: &[(&str, &str)]| all.iter().map(|(name, kind)| (name.to_string(), kind.to_string())).collect();
+    SHAPES.iter().map(|shape| (shape.name.into(), fields(shape.fields))).collect()
+}
+
+/// Every struct of the header: `typedef struct { uint32_t offset; .. } polar_ray_record;`.
+fn structs_in_header() -> Structs {
+    let text = without_comments(&source("include/polar.h"));
+    let field = |field: &str| {
+        let (kind, name) = field.trim().rsplit_once(' ').expect("a type and a name");
+        (name.to_string(), rust_name(kind.trim()).to_string())
+    };
+    let of_struct = |part: &str| {
+        let (fields, rest) = part.split_once('}').expect("the fields' end");
+        let name = rest.split(';').next().expect("a name").trim();
+        (rust_name(name).to_string(), fields.split_terminator(';').filter(|f| !f.trim().is_empty()).map(field).collect())
+    };
+    text.split("typedef struct {").skip(1).map(of_struct).collect()
+}
+
+/// The structs of a source in Rattle that are laid out as C lays them out.
+fn structs_in_library(path: &str) -> Structs {
+    let text: String = source(path).lines().map(|line| line.split("//").next().expect("a line").to_owned() + "\n").collect();
+    let field = |field: &str| {
+        let (name, kind) = field.trim().strip_prefix("pub ").expect("a field for all").split_once(':').expect("a type");
+        (name.trim().to_string(), kind.trim().to_string())
+    };
+    let of_struct = |part: &str| {
+        let (head, rest) = part.split_once('{').expect("fields");
+        let name = head.trim().rsplit(' ').next().expect("a name");
+        let fields = rest.split_once('}').expect("the fields' end").0;
+        (name.to_string(), fields.split(',').filter(|f| !f.trim().is_empty()).map(field).collect())
+    };
+    text.split("#[repr(C)]").skip(1).map(of_struct).collect()
+}
+
+#[test]
+fn the_header_has_the_same_structs() {
+    assert_eq!(declared_structs(), structs_in_header());
+}
+
+#[test]
+fn the_library_has_the_same_structs() {
+    assert_eq!(declared_structs(), structs_in_library("crates/index/src/lib.rt"));
+}
+
+/// Two words, one after the other, and nothing else.
+#[test]
+fn a_record_is_two_words() {
+    assert_eq!(
+        declared_structs(),
+        [("RayRecord".into(), [("offset", "u32"), ("before", "u32")].map(|(n, t)| (n.into(), t.into())).into())].into()
+    );
+    assert_eq!((size_of::<RayRecord>(), align_of::<RayRecord>()), (8, 4));
+    assert_eq!((offset_of!(RayRecord, offset), offset_of!(RayRecord, before)), (0, 4));
 }
