@@ -135,13 +135,13 @@ impl<'a> Compared<'a> {
         assert!(values == their_values, "values differ: {}", call());
     }
 
-    /// A cut's every ray by the record that the library built for it: both plain calls' answer, in all lent memory. Answers how
-    /// many rays these were.
-    pub fn by_built_records(&self, cut: usize) -> usize {
+    /// Rays of a cut by the records that the library built for them: what both plain calls answer, in all lent memory.
+    pub fn by_built_records(&self, cut: usize, rays: impl IntoIterator<Item = usize>) {
         let grid = self.verdict.as_ref().expect("a sound file").cuts[cut].grid;
         let mut records = vec![RayRecord::default(); grid.rays];
         assert_eq!(ours::build_index(self.file, cut, &mut records), Ok(()));
-        for (ray, RayRecord { offset, before }) in records.into_iter().enumerate() {
+        for ray in rays {
+            let RayRecord { offset, before } = records[ray];
             let (record, room) = (Record { offset, before }, grid.bins + 2);
             let call = || self.told(&format!("by its own record {record:?}, cut {cut}, ray {ray}"));
             let (mut levels, mut plain) = (Lent::new(room), Lent::new(room));
@@ -154,7 +154,6 @@ impl<'a> Compared<'a> {
             assert_eq!(ours::ray_values_from(self.file, cut, ray, record, marks.room(), values.room()), Ok(()), "{}", call());
             assert!((marks, values) == (plain_marks, plain_values), "marks or values differ: {}", call());
         }
-        grid.rays
     }
 
     pub fn bin_value(&self, cut: usize, ray: usize, bin: usize) {

@@ -4,6 +4,8 @@
 use differential::compare::{run_check, run_read, run_write, Compared};
 use differential::dual;
 use reference::dual::shapes as dual_shapes;
+use reference::index::shapes::{random_record, random_unchecked_plan};
+use reference::index::Record;
 use reference::maker::{assemble, CutPlan, Plan, Section};
 use reference::numbers::Numbers;
 use reference::published::Product;
@@ -163,6 +165,48 @@ fn files(n: &mut Numbers) {
     }
 }
 
+/// A file whose data need not give its bins, now and then of many cuts or of a great grid.
+fn unchecked_file(n: &mut Numbers) -> Vec<u8> {
+    let (cuts, bins, rays) = match n.below(40) {
+        0 => (1, 2048, 200),
+        1 => (66, 3, 3),
+        _ => n.one_of(&[(4, 1, 1), (4, 6, 4), (4, 30, 10), (4, 1, 30), (4, 50, 1)]),
+    };
+    let plan = random_unchecked_plan(cuts, bins, rays, n);
+    spoiled_or_sound(&plan.sections(), n)
+}
+
+/// A record of any kind for a file's cut, or two numbers where there is no such cut.
+fn record(compared: &Compared, cut: usize, n: &mut Numbers) -> Record {
+    match compared.unchecked().as_ref().ok().and_then(|file| file.cuts.get(cut)) {
+        Some(cut) => random_record(cut, n),
+        None => Record { offset: n.word() as u32, before: n.word() as u32 },
+    }
+}
+
+/// Building an index and the ray calls by a record, on accepted files and on others.
+fn indexes(n: &mut Numbers) {
+    let file = if n.once_in(3) { file(n) } else { unchecked_file(n) };
+    let compared = Compared::new(&file);
+    let cuts = compared.unchecked().as_ref().map_or(1, |file| file.cuts.len());
+    for _ in 0..8 {
+        let cut = argument(cuts, n);
+        let grid = compared.unchecked().as_ref().ok().and_then(|file| file.cuts.get(cut)).map(|cut| cut.grid);
+        let (bins, rays) = grid.map_or((4, 4), |grid| (grid.bins, grid.rays));
+        compared.build_index(cut, room(rays, n));
+        for _ in 0..4 {
+            let (ray, record) = (argument(rays, n), record(&compared, cut, n));
+            let _ = compared.ray_levels_from(cut, ray, record, room(bins, n));
+            compared.ray_values_from(cut, ray, record, room(bins, n), room(bins, n));
+        }
+    }
+    if let Ok(accepted) = &compared.verdict {
+        let cut = n.below(cuts);
+        let ray = n.below(accepted.cuts[cut].grid.rays);
+        compared.by_built_records(cut, [ray]);
+    }
+}
+
 /// The value after an option, if it is given.
 fn option(name: &str) -> Result<Option<u64>, String> {
     let mut words = std::env::args().skip_while(|word| word != name).skip(1);
@@ -186,6 +230,7 @@ fn fuzz() -> Result<(), String> {
             runs(&mut n);
             files(&mut n);
             dual_files(&mut n);
+            indexes(&mut n);
         });
         if let Err(panic) = met {
             eprintln!("round {rounds} of seed {seed}");
