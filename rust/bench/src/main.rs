@@ -2,6 +2,7 @@
 //! microseconds and their ratio. All buffers are made and written to before the first time is taken.
 mod dual;
 mod files;
+mod index;
 mod lister;
 mod runs;
 mod timing;
@@ -16,6 +17,9 @@ fn main() {
     }
     if asked("files") {
         files::rows();
+    }
+    if asked("index") {
+        index::rows();
     }
     if asked("dual") {
         dual::rows();

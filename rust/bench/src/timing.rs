@@ -6,6 +6,8 @@ use std::time::{Duration, Instant};
 /// How long the pairs of one row go on at least, and how many there are at least.
 const SPAN: Duration = Duration::from_millis(1000);
 const ROUNDS: usize = 41;
+/// How many pairs a row has that takes seconds.
+const FEW_ROUNDS: usize = 3;
 /// A time is taken over as many calls as fill this.
 const SAMPLE: Duration = Duration::from_micros(200);
 
@@ -24,35 +26,78 @@ fn calls_of<T>(call: &mut impl FnMut() -> T) -> u32 {
 }
 
 /// The least times of the two, in seconds, and the middle one of the pairs' ratios.
-fn pairs<T, U>(mut ours: impl FnMut() -> T, mut plain: impl FnMut() -> U) -> (f64, f64, f64) {
-    let calls = (calls_of(&mut ours), calls_of(&mut plain));
-    let (mut of_ours, mut of_plain) = (f64::INFINITY, f64::INFINITY);
-    let mut ratios = Vec::new();
-    let began = Instant::now();
-    while ratios.len() < ROUNDS || began.elapsed() < SPAN {
-        let (o, p) = (seconds(calls.0, &mut ours), seconds(calls.1, &mut plain));
-        (of_ours, of_plain) = (of_ours.min(o), of_plain.min(p));
-        ratios.push(o / p);
-    }
-    ratios.sort_by(f64::total_cmp);
-    (of_ours, of_plain, ratios[ratios.len() / 2])
+struct Pairs {
+    ours: f64,
+    plain: f64,
+    ratio: f64,
 }
 
-/// A table's heading: what its rows are about, and of how many octets.
+impl Pairs {
+    /// At least `rounds` pairs that go on for at least `span`, each time taken over `calls`.
+    fn new<T, U>(mut ours: impl FnMut() -> T, mut plain: impl FnMut() -> U, calls: (u32, u32), rounds: usize, span: Duration) -> Pairs {
+        let mut least = (f64::INFINITY, f64::INFINITY);
+        let mut ratios = Vec::new();
+        let began = Instant::now();
+        while ratios.len() < rounds || began.elapsed() < span {
+            let (o, p) = (seconds(calls.0, &mut ours), seconds(calls.1, &mut plain));
+            least = (least.0.min(o), least.1.min(p));
+            ratios.push(o / p);
+        }
+        ratios.sort_by(f64::total_cmp);
+        Pairs { ours: least.0, plain: least.1, ratio: ratios[ratios.len() / 2] }
+    }
+
+    fn many<T, U>(mut ours: impl FnMut() -> T, mut plain: impl FnMut() -> U) -> Pairs {
+        let calls = (calls_of(&mut ours), calls_of(&mut plain));
+        Pairs::new(ours, plain, calls, ROUNDS, SPAN)
+    }
+}
+
+/// A table's heading: what its rows are about, and of how many octets. Its last column is our time in units of its own.
 pub struct Table {
-    octets: usize,
+    /// in seconds
+    unit: f64,
 }
 
 impl Table {
+    /// Our time for each octet, in nanoseconds.
     pub fn new(about: &str, octets: usize) -> Table {
-        let about = format!("{about} ({octets} octets)");
-        println!("\n{about:<58} {:>12} {:>12} {:>7} {:>12}", "ours, us", "plain, us", "ratio", "ns an octet");
-        Table { octets }
+        Table::heading(about, octets, "ns an octet");
+        Table { unit: octets as f64 * 1e-9 }
     }
 
-    /// One row: the least times, the middle ratio, and ours for each octet.
+    /// Our time in times of the first row's, which are called `units`.
+    pub fn in_times_of<T, U>(
+        about: &str,
+        octets: usize,
+        units: &str,
+        what: &str,
+        ours: impl FnMut() -> T,
+        plain: impl FnMut() -> U,
+    ) -> Table {
+        Table::heading(about, octets, units);
+        let first = Pairs::many(ours, plain);
+        let table = Table { unit: first.ours };
+        table.print(what, first);
+        table
+    }
+
+    fn heading(about: &str, octets: usize, units: &str) {
+        let about = format!("{about} ({octets} octets)");
+        println!("\n{about:<58} {:>12} {:>12} {:>7} {units:>12}", "ours, us", "plain, us", "ratio");
+    }
+
+    /// One row: the least times, the middle ratio, and ours in units.
     pub fn row<T, U>(&self, what: &str, ours: impl FnMut() -> T, plain: impl FnMut() -> U) {
-        let (ours, plain, ratio) = pairs(ours, plain);
-        println!("{what:<58} {:>12.2} {:>12.2} {ratio:>7.2} {:>12.3}", ours * 1e6, plain * 1e6, ours * 1e9 / self.octets as f64);
+        self.print(what, Pairs::many(ours, plain));
+    }
+
+    /// A row of few pairs, for what takes seconds.
+    pub fn slow_row<T, U>(&self, what: &str, ours: impl FnMut() -> T, plain: impl FnMut() -> U) {
+        self.print(&format!("{what}, {FEW_ROUNDS} pairs"), Pairs::new(ours, plain, (1, 1), FEW_ROUNDS, Duration::ZERO));
+    }
+
+    fn print(&self, what: &str, Pairs { ours, plain, ratio }: Pairs) {
+        println!("{what:<58} {:>12.2} {:>12.2} {ratio:>7.2} {:>12.3}", ours * 1e6, plain * 1e6, ours / self.unit);
     }
 }

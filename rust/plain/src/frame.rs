@@ -101,7 +101,7 @@ pub trait Format<'a>: Default {
 }
 
 /// All the checks of a file. Each cut is handed on with its number, while those after it are still to be checked.
-pub fn walk<'a, F: Format<'a>>(file: &'a [u8], mut on_cut: impl FnMut(usize, F::Cut)) -> Answer<Opened> {
+pub fn walk<'a, F: Format<'a>>(file: &'a [u8], on_cut: &mut dyn FnMut(usize, F::Cut)) -> Answer<Opened> {
     if !(20..=8_388_608).contains(&file.len()) {
         return Err(Refusal(1, 0));
     }
@@ -159,13 +159,13 @@ pub fn walk<'a, F: Format<'a>>(file: &'a [u8], mut on_cut: impl FnMut(usize, F::
 }
 
 pub fn open<'a, F: Format<'a>>(file: &'a [u8]) -> Answer<Opened> {
-    walk::<F>(file, |_, _| ())
+    walk::<F>(file, &mut |_, _| ())
 }
 
 /// The product, and the cut asked for.
 pub fn cut<'a, F: Format<'a>>(file: &'a [u8], cut: usize) -> Answer<(u8, F::Cut)> {
     let mut found = None;
-    let opened = walk::<F>(file, |k, of_file| {
+    let opened = walk::<F>(file, &mut |k, of_file| {
         if k == cut {
             found = Some(of_file);
         }
@@ -176,6 +176,6 @@ pub fn cut<'a, F: Format<'a>>(file: &'a [u8], cut: usize) -> Answer<(u8, F::Cut)
 /// The product, and all cuts.
 pub fn cuts<'a, F: Format<'a>>(file: &'a [u8]) -> Answer<(u8, Vec<F::Cut>)> {
     let mut cuts = Vec::new();
-    let opened = walk::<F>(file, |_, cut| cuts.push(cut))?;
+    let opened = walk::<F>(file, &mut |_, cut| cuts.push(cut))?;
     Ok((opened.product, cuts))
 }
