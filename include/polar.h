@@ -16,8 +16,9 @@
  *
  * Every call on a file is lent the whole file and makes all its checks itself, in this order: 1, 2, then section by
  * section 3, 9, 4, 5, 6, 7, 12, 8; then 10; then 11. Values are in hundredths: of dBZ for reflectivity, of m/s for velocity.
- * The calls by a record, polar_ray_levels_from and polar_ray_values_from, look at no data but the ray's: they leave out 12 and
- * 8, and after 11 comes 13. On a dual-polarisation file the order is 1, 2, then section by section 3, 9, 4, 5, 14, 6; then 10.
+ * The calls by a record, polar_ray_levels_from and polar_ray_values_from, look at no data but the ray's: 12 and 8 are left
+ * out, and after 11 comes 13. On a dual-polarisation file the order is 1, 2, then section by section 3, 9, 4, 5, 14, 6; then
+ * 10.
  */
 #ifndef POLAR_H
 #define POLAR_H
@@ -115,8 +116,8 @@ uint32_t polar_ray_values(const uint8_t *file, size_t len, size_t cut, size_t ra
                           int32_t *values, size_t values_room, uint64_t place[1]);
 
 /*
- * A record says where a ray begins in its cut's data, which is section 7 from octet 6 on: the offset in the data of the level
- * octet whose run holds the ray's first bin, and how many bins of that run came before. It is two words and nothing else.
+ * A record says where a ray begins in its cut's data, which is section 7 from octet 6 on: the offset in the data of the
+ * level octet whose run holds the ray's first bin, and how many bins of that run came before. Two words and nothing else.
  */
 typedef struct {
     uint32_t offset;

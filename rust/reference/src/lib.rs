@@ -30,7 +30,7 @@ pub mod shapes;
 pub mod spoil;
 pub mod stretches;
 
-/// One of document 01's refusal numbers, with its place.
+/// A refusal's number, with its place.
 #[derive(Debug, Clone, Copy, PartialEq, Eq)]
 pub struct Refusal {
     pub number: u32,
