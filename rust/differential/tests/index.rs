@@ -395,9 +395,11 @@ fn rooms_for_records() {
     let mut n = Numbers::new(108);
     for round in 0..6000 {
         let (bins, rays) = n.one_of(&[(1, 1), (4, 3), (1, 40), (9, 9)]);
-        let mut file = random_unchecked_plan(2, bins, rays, &mut n).file();
-        if round % 3 == 0 {
-            spoil(&mut file, &mut n);
+        let mut file = random_plan(2, bins, rays, &mut n).file();
+        match round % 4 {
+            0 => spoil(&mut file, &mut n),
+            1 => file = random_unchecked_plan(2, bins, rays, &mut n).file(),
+            _ => {}
         }
         let compared = Compared::new(&file);
         for cut in 0..3 {
