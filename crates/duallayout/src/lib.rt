@@ -153,9 +153,9 @@ pub fn judge7(s: &[u8], st: State) -> Judged
     sections::unless(len == due, FileRefusal::Length(at), sections::fine())
 }
 
-// The checks of a section of the format's own.
+// The checks of a section of the format's own other than a 7, which has its function above.
 pub fn judge(s: &[u8], st: State, n: u8) -> Judged
-    requires { ⌜ (n ≡ 7 → pointsAt (now s) (st .section3) ≤ 2097152) ⌝ }
+    requires { ⌜ (n ≡ 7 → ⊥) ⌝ }
     ensures { λ r. ⌜ r ≡ firstFault (ownChecks (now (s .entry)) (contextIn st) (st .at) n) ⌝ }
 {
     if n == 3 {
@@ -166,9 +166,6 @@ pub fn judge(s: &[u8], st: State, n: u8) -> Judged
     }
     if n == 5 {
         return judge5(s, st);
-    }
-    if n == 7 {
-        return judge7(s, st);
     }
     Judged::Fine
 }

@@ -18,7 +18,7 @@ ghost use Rattle.values.specs.Table.{tableRight};
 ghost use Rattle.sections.specs.Verdict.{firstFault};
 ghost use Rattle.sections.specs.Places.{contextIn};
 ghost use Rattle.layout.specs.Parts.{productOf, tableAt, dataAt, productIn};
-ghost use Rattle.layout.specs.Checks.{checks3, checks4, checks5, rest5, checks7, ownChecks, anyDataChecks7, anyDataChecks};
+ghost use Rattle.layout.specs.Checks.{checks3, checks4, checks5, rest5, checks7, ownChecks, anyDataChecks7};
 
 fn wide16(x: u16) -> u32
     ensures { λ r. ⌜ r ≡ x ⌝ }
@@ -175,10 +175,10 @@ pub fn judge_any7(s: &[u8], st: State) -> Judged
     sections::unless(6 <= len, FileRefusal::Length(at), low)
 }
 
-// The checks of a section of the format's own.
+// The checks of a section of the format's own other than a 7, which has its functions above.
 pub fn judge(s: &[u8], st: State, n: u8) -> Judged
     requires { ⌜ st .at + lengthAt (now s) (st .at) ≤ length (now s) ⌝ }
-    requires { ⌜ (n ≡ 7 → pointsAt (now s) (st .section3) ≤ 2097152) ⌝ }
+    requires { ⌜ (n ≡ 7 → ⊥) ⌝ }
     ensures { λ r. ⌜ r ≡ firstFault (ownChecks (now (s .entry)) (contextIn st) (st .at) n) ⌝ }
 {
     if n == 3 {
@@ -190,20 +190,5 @@ pub fn judge(s: &[u8], st: State, n: u8) -> Judged
     if n == 5 {
         return judge5(s, st);
     }
-    if n == 7 {
-        return judge7(s, st);
-    }
     Judged::Fine
-}
-
-// The same but for the data.
-pub fn judge_any(s: &[u8], st: State, n: u8) -> Judged
-    requires { ⌜ st .at + lengthAt (now s) (st .at) ≤ length (now s) ⌝ }
-    requires { ⌜ (n ≡ 7 → pointsAt (now s) (st .section3) ≤ 2097152) ⌝ }
-    ensures { λ r. ⌜ r ≡ firstFault (anyDataChecks (now (s .entry)) (contextIn st) (st .at) n) ⌝ }
-{
-    if n == 7 {
-        return judge_any7(s, st);
-    }
-    judge(s, st, n)
 }

@@ -113,23 +113,22 @@ fn judge7(format: Format, s: &[u8], st: State) -> Judged
     }
 }
 
-// The checks of the format's own sections.
+// The checks of the format's own sections other than a 7.
 fn judge_own(format: Format, s: &[u8], st: State, n: u8) -> Judged
     requires { ⌜ st .at + lengthAt (now s) (st .at) ≤ length (now s) ⌝ }
-    requires { ⌜ (n ≡ 7 → pointsAt (now s) (st .section3) ≤ 2097152) ⌝ }
+    requires { ⌜ (n ≡ 7 → ⊥) ⌝ }
     ensures { λ r. ⌜ r ≡ firstFault (ownOf format (now (s .entry)) (contextIn st) (st .at) n) ⌝ }
 {
     match format {
-        Format::RunLength => layout::judge(s, st, n),
+        Format::RunLength | Format::AnyData => layout::judge(s, st, n),
         Format::DualPolarisation => duallayout::judge(s, st, n),
-        Format::AnyData => layout::judge_any(s, st, n),
     }
 }
 
-// The checks of the section's own kind: 1 and 6 are every format's.
+// The checks of the section's own kind, other than a 7: 1 and 6 are every format's.
 fn judge(format: Format, s: &[u8], st: State, n: u8) -> Judged
     requires { ⌜ st .at + lengthAt (now s) (st .at) ≤ length (now s) ⌝ }
-    requires { ⌜ (n ≡ 7 → pointsAt (now s) (st .section3) ≤ 2097152) ⌝ }
+    requires { ⌜ (n ≡ 7 → ⊥) ⌝ }
     ensures { λ r. ⌜ r ≡ firstFault (sectionChecks (ownOf format) (now (s .entry)) (contextIn st) (st .at) n) ⌝ }
 {
     if n == 1 {

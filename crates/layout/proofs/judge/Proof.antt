@@ -29,18 +29,10 @@ unfolding ownChecks
 returns-3 c = let n = c .before .before .before .before .before .args .n in
     rw (ne-eqb n 3 (c .before .before .before .if1 .left), ne-eqb n 4 (c .before .before .if2 .left), eq-eqb n 5 (c .before .if3 .taken)) (c .judge5 .ensures)
 
-judge7-requires : tie.Need-judge7-requires
-judge7-requires c κs = (c .before .before .before .before .before .pre .0, c .before .before .before .before .before .pre .1 (c .if4 .taken))
-
 returns-4 : tie.Need-returns-4
 unfolding ownChecks
-returns-4 c = let n = c .before .before .before .before .before .before .args .n in
-    rw (ne-eqb n 3 (c .before .before .before .before .if1 .left), ne-eqb n 4 (c .before .before .before .if2 .left), ne-eqb n 5 (c .before .before .if3 .left), eq-eqb n 7 (c .before .if4 .taken)) (c .judge7 .ensures)
-
-returns-5 : tie.Need-returns-5
-unfolding ownChecks
-returns-5 c = let n = c .before .before .before .before .before .args .n in
-    rw (ne-eqb n 3 (c .before .before .before .if1 .left), ne-eqb n 4 (c .before .before .if2 .left), ne-eqb n 5 (c .before .if3 .left), ne-eqb n 7 (c .if4 .left))
+returns-4 c = let n = c .before .before .before .before .args .n in
+    rw (ne-eqb n 3 (c .before .before .if1 .left), ne-eqb n 4 (c .before .if2 .left), ne-eqb n 5 (c .if3 .left), ne-eqb n 7 (c .before .before .before .before .pre .1))
 
 pub judge-spec : {M : Type 1} → statement M
 judge-spec =
@@ -52,6 +44,4 @@ judge-spec =
     returns-2
     judge5-requires
     returns-3
-    judge7-requires
-    returns-4
-    returns-5)
+    returns-4)

@@ -69,7 +69,7 @@ has-room-requires : tie.Need-has-room-requires
 has-room-requires c κs = search needs
 
 judge-requires : tie.Need-judge-requires
-judge-requires c κs = asked (c .before .before)
+judge-requires c κs = (asked (c .before .before) .0, c .before .if3 .left)
 
 unless-requires-2 : tie.Need-unless-requires-2
 unless-requires-2 c κs = search needs

@@ -1,45 +1,45 @@
--- By the format.
+-- By the format; a run-length packed file's sections other than 7 have the same checks whatever its data.
+use Prim.Native.Nat.{ℕ}
+use mathlib.Core.Path.{_≡_, refl, sym, _∙_}
+use mathlib.Core.Logic.{_⊎_, inl, inr, ⊎-elim}
+use mathlib.Core.List.{List}
+use native.Mathlib.Omega.{arith}
+use borrow.Author.Tests.{ne-eqb}
 use borrow.Author.Needs.{needs}
+use denote.Ref.{now}
+use denote.Enum.Declared.{tagOf}
+use Rattle.sections.specs.Checks.{Context}
+use Rattle.sections.specs.Places.{contextIn}
+use Rattle.layout.specs.Checks as L
+use Rattle.walks.specs.Formats.{ownOf}
+use Rattle.walks.specs.declared.Format.{Format}
+use Rattle.walks.specs.declared.Format.the-variants.{RunLength, DualPolarisation, AnyData}
+use Rattle.walks.proofs.Format.{the-type}
 use Rattle.walks.proofs.judge_own.Statement.{statement}
 use Rattle.walks.proofs.judge_own.Tie as tie
 
-enum-told : tie.Need-enum-told
-enum-told c = search needs
+same-own : (f : Format) → (tagOf the-type f ≡ 0) ⊎ (tagOf the-type f ≡ 2) → (s : List ℕ) (x : Context) (at n : ℕ) → (n ≡ 7 → ⊥) → L.ownChecks s x at n ≡ ownOf f s x at n
+unfolding L.anyDataChecks
+same-own RunLength k s x at n other = refl
+same-own AnyData k s x at n other = rw (ne-eqb n 7 other)
+same-own DualPolarisation (inl e) s x at n other = absurd (omega (arith, e))
+same-own DualPolarisation (inr e) s x at n other = absurd (omega (arith, e))
 
 judge-requires : tie.Need-judge-requires
 judge-requires c κs = search needs
 
-enum-told-2 : tie.Need-enum-told-2
-enum-told-2 c = search needs
+enum-told : tie.Need-enum-told
+enum-told c = search needs
 
 judge-requires-2 : tie.Need-judge-requires-2
 judge-requires-2 c κs = search needs
 
-enum-told-3 : tie.Need-enum-told-3
-enum-told-3 c = search needs
-
-judge-any-requires : tie.Need-judge-any-requires
-judge-any-requires c κs = search needs
-
 returns : tie.Need-returns
-returns c = rw (c .before .enum-told .given .1) (c .judge .ensures)
+returns c = let s = c .before .before .before in
+    rw (sym (same-own (s .args .format) (c .before .match .keys1) (now (s .args .s)) (contextIn (s .args .st)) (s .args .st .at) (s .args .n) (s .pre .1))) (c .judge .ensures)
 
 returns-2 : tie.Need-returns-2
-returns-2 c = rw (c .before .enum-told2 .given .1) (c .judge2 .ensures)
-
-returns-3 : tie.Need-returns-3
-returns-3 c = rw (c .before .enum-told3 .given .1) (c .judge-any .ensures)
+returns-2 c = rw (c .before .enum-told .given .1) (c .judge2 .ensures)
 
 pub judge-own-spec : {M : Type 1} → statement M
-judge-own-spec =
-    tie.close
-    (tie.spec
-    enum-told
-    judge-requires
-    enum-told-2
-    judge-requires-2
-    enum-told-3
-    judge-any-requires
-    returns
-    returns-2
-    returns-3)
+judge-own-spec = tie.close (tie.spec judge-requires enum-told judge-requires-2 returns returns-2)
