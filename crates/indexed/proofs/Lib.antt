@@ -2,3 +2,4 @@ pub mod Unfit
 pub mod Same
 pub mod Refused
 pub mod Determined
+pub mod Samples
