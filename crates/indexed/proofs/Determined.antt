@@ -4,9 +4,9 @@ use mathlib.Core.Path.{_≡_, sym, _∙_, ap}
 use mathlib.Core.List.{List}
 use lib.IntN.{ℤ}
 use Rattle.index.specs.declared.RayRecord.{RayRecord}
-use Rattle.polar.specs.Records.{rowAfter, levelsFrom, marksFrom, valuesFrom, BuildPromise}
+use Rattle.records.specs.Records.{rowAfter, levelsFrom, marksFrom, valuesFrom, BuildPromise}
 use Rattle.polar.specs.declared.RayAnswer.{RayAnswer}
-use Rattle.polar.specs.declared.RecordAnswer.{RecordAnswer}
+use Rattle.records.specs.declared.RecordAnswer.{RecordAnswer}
 use Rattle.indexed.specs.Promises.{LevelsFromPromise, ValuesFromPromise}
 
 pub build-one : {s : List ℕ} {i : ℕ} {row row′ row″ : List RayRecord} {r r′ : RayAnswer}

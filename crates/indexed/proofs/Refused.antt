@@ -22,17 +22,17 @@ use Rattle.layout.proofs.Exact.{exact, any-exact}
 use Rattle.layout.proofs.AnyData.{never-eight}
 use Rattle.cuts.specs.Records.{usableIn}
 use Rattle.polar.specs.Cuts.{onCut}
-use Rattle.polar.specs.Records.{fromOn, fromAnswer, levelsFrom, marksFrom, valuesFrom, buildOn, buildAnswer, rowAfter, BuildPromise}
-use Rattle.polar.specs.declared.RecordAnswer.{RecordAnswer}
-use Rattle.polar.specs.declared.RecordAnswer.the-variants as R
-use Rattle.polar.specs.declared.RecordRefusal.{RecordRefusal}
-use Rattle.polar.specs.declared.RecordRefusal.the-variants as Q
+use Rattle.records.specs.Records.{fromOn, fromAnswer, levelsFrom, marksFrom, valuesFrom, buildOn, buildAnswer, rowAfter, BuildPromise}
+use Rattle.records.specs.declared.RecordAnswer.{RecordAnswer}
+use Rattle.records.specs.declared.RecordAnswer.the-variants as R
+use Rattle.records.specs.declared.RecordRefusal.{RecordRefusal}
+use Rattle.records.specs.declared.RecordRefusal.the-variants as Q
 use Rattle.polar.specs.declared.RayAnswer.{RayAnswer}
 use Rattle.polar.specs.declared.RayAnswer.the-variants as Y
 use Rattle.polar.specs.declared.FillRefusal.{FillRefusal}
 use Rattle.polar.specs.declared.FillRefusal.the-variants as F
 use Rattle.polar.proofs.ByVerdict.{by-verdict, cut-accepted}
-use Rattle.polar.proofs.Answering.{from-none, from-short, from-not}
+use Rattle.records.proofs.Answering.{from-none, from-short, from-not}
 use Rattle.demands.specs.Reasons.{FillReason, by-file as file-fill, by-cut as cut-fill, by-argument as argument-fill, by-room as room-fill}
 use Rattle.indexed.specs.Promises.{LevelsFromPromise, ValuesFromPromise}
 use Rattle.indexed.specs.Reasons.{FromReason, by-file, by-cut, by-ray, by-room, by-record}

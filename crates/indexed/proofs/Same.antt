@@ -30,13 +30,13 @@ use Rattle.cuts.specs.Records.{recordsIn, usableIn, rayFrom}
 use Rattle.cuts.proofs.Places.{ray-gives}
 use Rattle.polar.specs.Cuts.{onCut, cutAt, cutIn}
 use Rattle.polar.specs.Rays.{rayOn, rayAnswer, ifWritten, levelsAfter, marksAfter, valuesAfter}
-use Rattle.polar.specs.Records.{fromOn, fromAnswer, ifGiven, cutAnyData, levelsFrom, marksFrom, valuesFrom, buildOn, buildAnswer, rowAfter, BuildPromise}
+use Rattle.records.specs.Records.{fromOn, fromAnswer, ifGiven, cutAnyData, levelsFrom, marksFrom, valuesFrom, buildOn, buildAnswer, rowAfter, BuildPromise}
 use Rattle.polar.specs.declared.RayAnswer.{RayAnswer}
 use Rattle.polar.specs.declared.RayAnswer.the-variants as Y
 use Rattle.polar.specs.declared.FillRefusal.the-variants as F
-use Rattle.polar.specs.declared.RecordAnswer.{RecordAnswer}
-use Rattle.polar.specs.declared.RecordAnswer.the-variants as R
-use Rattle.polar.specs.declared.RecordRefusal.the-variants as Q
+use Rattle.records.specs.declared.RecordAnswer.{RecordAnswer}
+use Rattle.records.specs.declared.RecordAnswer.the-variants as R
+use Rattle.records.specs.declared.RecordRefusal.the-variants as Q
 use Rattle.polar.proofs.ByVerdict.{by-verdict}
 use Rattle.demands.specs.Promises.{LevelsPromise, ValuesPromise}
 use Rattle.indexed.specs.Promises.{LevelsFromPromise, ValuesFromPromise}

@@ -12,8 +12,8 @@ use Rattle.sections.specs.declared.FileRefusal.{FileRefusal}
 use Rattle.layout.specs.Parts.{dataAt, greatestIn}
 use Rattle.layout.specs.Checks.{anyDataChecks}
 use Rattle.layout.specs.Accepted.{AcceptedAnyData}
-use Rattle.polar.specs.declared.RecordRefusal.{RecordRefusal}
-use Rattle.polar.specs.declared.RecordRefusal.the-variants.{File, Argument, Room, Record}
+use Rattle.records.specs.declared.RecordRefusal.{RecordRefusal}
+use Rattle.records.specs.declared.RecordRefusal.the-variants.{File, Argument, Room, Record}
 
 -- "13, for a record whose offset lies outside the data, whose octet there exceeds V, whose earlier bins reach the run's length, or whose data ends before Nb bins"
 pub data Unfit (v nb : ℕ) (d : List ℕ) (rec : RayRecord) : Type 0 where

@@ -1,8 +1,8 @@
--- The answers on one cut, a law for each way out: 10, 11, 13, or what is asked for. nr and nb are what was read of Nr and Nb.
+-- The answers on one cut, a law for each way out: 10, 11, or what is asked for. nr and nb are what was read of Nr and Nb.
 use Prim.Native.Nat.{ℕ, _≤_, _<_}
-use mathlib.Core.Path.{_≡_, sym, ap, _∙_}
+use mathlib.Core.Path.{_≡_, sym, _∙_}
 use mathlib.Core.List.{List}
-use mathlib.Core.Bool.{Bool, true, false, cond, and-false}
+use mathlib.Core.Bool.{true, false, and-false}
 use native.Mathlib.Omega.{arith}
 use borrow.Author.Tests.{lt-ltb, le-ltb}
 use lib.IntN.{ℤ}
@@ -12,15 +12,10 @@ use Rattle.layout.specs.Parts.{productIn, levelIn}
 use Rattle.sections.specs.declared.Cut.{Cut}
 use Rattle.stretches.specs.Call.{answerOf, rightT, rightPoint}
 use Rattle.cuts.specs.Bins.{stretchesIn}
-use Rattle.cuts.specs.Records.{usableIn}
-use Rattle.index.specs.declared.RayRecord.{RayRecord}
 use Rattle.polar.specs.Rays.{rayOn, binOf, binOn}
-use Rattle.polar.specs.Records.{fromOn}
 use Rattle.polar.specs.Stretching.{stretchesOn}
 use Rattle.polar.specs.declared.RayAnswer.the-variants.{Written, Refused}
 use Rattle.polar.specs.declared.FillRefusal.the-variants.{Argument, Room}
-use Rattle.polar.specs.declared.RecordAnswer.the-variants as R
-use Rattle.polar.specs.declared.RecordRefusal.the-variants as Q
 use Rattle.polar.specs.declared.BinAnswer.the-variants as B
 use Rattle.polar.specs.declared.AskRefusal.the-variants as A
 use Rattle.polar.specs.declared.StretchAnswer.the-variants as S
@@ -43,34 +38,6 @@ module _ (s : List ℕ) (c : Cut) (nr nb : ℕ) (er : nr ≡ raysIn s c) (eb : n
       let h' : ray < raysIn s c = omega arith in
       let k' : binsIn s c ≤ room = omega arith in
       rw (lt-ltb ray (raysIn s c) h', le-ltb room (binsIn s c) k')
-
-  -- by a record
-  module _ (rec : RayRecord) where
-    pub from-none : (room : ℕ) → nr ≤ ray → R.Refused Q.Argument ≡ fromOn s ray rec room c
-    unfolding fromOn
-    from-none room h = let k : raysIn s c ≤ ray = omega arith in rw (le-ltb ray (raysIn s c) k)
-
-    pub from-short : (room : ℕ) → ray < nr → room < nb → R.Refused Q.Room ≡ fromOn s ray rec room c
-    unfolding fromOn
-    from-short room h k =
-        let h' : ray < raysIn s c = omega arith in
-        let k' : room < binsIn s c = omega arith in
-        rw (lt-ltb ray (raysIn s c) h', lt-ltb room (binsIn s c) k')
-
-    pub from-fits : (room : ℕ) → ray < nr → nb ≤ room → cond (usableIn s c rec) R.Written (R.Refused (Q.Record (c .section7))) ≡ fromOn s ray rec room c
-    unfolding fromOn
-    from-fits room h k =
-        let h' : ray < raysIn s c = omega arith in
-        let k' : binsIn s c ≤ room = omega arith in
-        rw (lt-ltb ray (raysIn s c) h', le-ltb room (binsIn s c) k')
-
-    -- `r` is what was found of the record
-    module _ (r : Bool) (e : r ≡ usableIn s c rec) (room : ℕ) (h : ray < nr) (k : nb ≤ room) where
-      pub from-given : r ≡ true → R.Written ≡ fromOn s ray rec room c
-      from-given y = ap (λ (b : Bool). cond b R.Written (R.Refused (Q.Record (c .section7)))) (sym y ∙ e) ∙ from-fits room h k
-
-      pub from-not : r ≡ false → R.Refused (Q.Record (c .section7)) ≡ fromOn s ray rec room c
-      from-not n = ap (λ (b : Bool). cond b R.Written (R.Refused (Q.Record (c .section7)))) (sym n ∙ e) ∙ from-fits room h k
 
   pub bin-ray-none : (bin : ℕ) → nr ≤ ray → B.Refused A.Argument ≡ binOn s ray bin c
   unfolding binOn

@@ -1,4 +1,3 @@
 pub mod OnCut
 pub mod Answering
 pub mod ByVerdict
-pub mod Starts

@@ -4,5 +4,3 @@ pub mod Opening
 pub mod Rays
 pub mod Stretching
 pub mod Reasons
-pub mod Records
-pub mod Building

@@ -5,10 +5,10 @@ use mathlib.Core.List.{List}
 use lib.ListN.{length, set}
 use lib.IntN.{ℤ}
 use Rattle.index.specs.declared.RayRecord.{RayRecord}
-use Rattle.polar.specs.Refusals.{recordNumber, recordPlace}
-use Rattle.polar.specs.Records.{buildAnswer, rowAfter, fromAnswer, levelsFrom, marksFrom, valuesFrom}
-use Rattle.polar.specs.declared.RecordAnswer.{RecordAnswer}
-use Rattle.polar.specs.declared.RecordAnswer.the-variants.{Written, Refused}
+use Rattle.records.specs.Refusals.{recordNumber, recordPlace}
+use Rattle.records.specs.Records.{buildAnswer, rowAfter, fromAnswer, levelsFrom, marksFrom, valuesFrom}
+use Rattle.records.specs.declared.RecordAnswer.{RecordAnswer}
+use Rattle.records.specs.declared.RecordAnswer.the-variants.{Written, Refused}
 use Rattle.polar_c.specs.Files.{rayNumber, rayWords}
 
 pub record BuildIndexCall (file : List ℕ) (cut : ℕ) (row : List RayRecord) (place : List ℕ) (number : ℕ) (row′ : List RayRecord) (place′ : List ℕ) : Type 0 where

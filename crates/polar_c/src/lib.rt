@@ -165,7 +165,7 @@ pub extern "C" fn polar_build_index(
 ) -> u32
     ensures { λ r. ⌜ BuildIndexCall (now (file .entry)) cut (now (records .entry)) (now (place .entry)) r (now (records .exit)) (now (place .exit)) ⌝ }
 {
-    let told = polar::build_index(file, cut, records);
+    let told = records::build_index(file, cut, records);
     answers::tell_ray(told, place)
 }
 
@@ -183,7 +183,7 @@ pub extern "C" fn polar_ray_levels_from(
     ensures { λ r. ⌜ RayLevelsFromCall (now (file .entry)) cut ray offset before (now (levels .entry)) (now (place .entry)) r (now (levels .exit)) (now (place .exit)) ⌝ }
 {
     let rec = RayRecord { offset, before };
-    answers::tell_from(polar::ray_levels_from(file, cut, ray, rec, levels), place)
+    answers::tell_from(records::ray_levels_from(file, cut, ray, rec, levels), place)
 }
 
 // Ray values by a record: Nb marks, and the value at each measured place.
@@ -202,7 +202,7 @@ pub extern "C" fn polar_ray_values_from(
 {
     let rec = RayRecord { offset, before };
     answers::tell_from(
-        polar::ray_values_from(file, cut, ray, rec, marks, values),
+        records::ray_values_from(file, cut, ray, rec, marks, values),
         place,
     )
 }

@@ -41,16 +41,16 @@ use denote.Triple.Clauses.{ensured, lasts}
 use denote.Triple.Walked.{says, Stays, gave-ref, gave-slice, stay-dropped, walkOf, goes-gave-ref, goes-gave-slice, goes-dropped, Walks, ends-at, walked, walk-meets}
 use Rattle.index.specs.declared.RayRecord.{RayRecord}
 use Rattle.polar.specs.declared.RayAnswer.{RayAnswer}
-use Rattle.polar.specs.Records.{BuildPromise, rowAfter}
+use Rattle.records.specs.Records.{BuildPromise, rowAfter}
 use Rattle.polar_c.specs.Files.{rayNumber, rayWords}
 use Rattle.polar_c.specs.Records.{BuildIndexCall}
 use Rattle.index.proofs.RayRecord as R
 use Rattle.polar.proofs.RayAnswer as E
 use Rattle.polar.proofs.RayAnswer.Laws as E′
-use Rattle.polar.proofs.build_index as build
-use Rattle.polar.proofs.build_index.Symbol as build-def
-use Rattle.polar.proofs.build_index.Symbol.{name as #polar·build-index}
-use Rattle.polar.proofs.build_index.Met as build-thm
+use Rattle.records.proofs.build_index as build
+use Rattle.records.proofs.build_index.Symbol as build-def
+use Rattle.records.proofs.build_index.Symbol.{name as #records·build-index}
+use Rattle.records.proofs.build_index.Met as build-thm
 use Rattle.polar_c.proofs.answers.tell_ray as tell
 use Rattle.polar_c.proofs.answers.tell_ray.Symbol as tell-def
 use Rattle.polar_c.proofs.answers.tell_ray.Symbol.{name as #answers·tell-ray}
@@ -149,7 +149,7 @@ module _ {M : Type 1} (𝓤 : URA M) (H : Heap 𝓤) (A : Atoms 𝓤) (W : Given
       qed W (‵ (flft κ₂ q₂) ∷ ‵ (E.the-row .own r (u ∷ [])) ∷ ‵ Place ∷ []) ∵ nothing ! $ move ! (1 ∷ 0 ∷ []) $ join ! $ nothing ! $ move ! (3 ∷ 0 ∷ []) $ fjoin ! $ move ! (2 ∷ 0 ∷ []) $ fjoin ! $
       move ! (1 ∷ 0 ∷ []) $ join ! $ frame ! $ done !
 
-  module _ (C : Calls 𝓤 H) (Λ : Loops 𝓤 H) (fm : FmC 𝓤 H (W .laws) C) (known-build : Triple 𝓤 (C #polar·build-index) (Build 𝓤 H A mem run)) (known-tell : Triple 𝓤 (C #answers·tell-ray) (Tell 𝓤 H A mem run)) where
+  module _ (C : Calls 𝓤 H) (Λ : Loops 𝓤 H) (fm : FmC 𝓤 H (W .laws) C) (known-build : Triple 𝓤 (C #records·build-index) (Build 𝓤 H A mem run)) (known-tell : Triple 𝓤 (C #answers·tell-ray) (Tell 𝓤 H A mem run)) where
     walk : Is (ShrSlice (named 0) κ₀ u8) s (vs ∷ []) → ent 𝓤 (onEntry 𝓤 H A call.signature κs (q₀, (q₁, (q₂, tt))) a vals) (WpFn 𝓤 H C Λ code.function (vs ∷ vint w64 i ∷ vr ∷ vp ∷ []) Post)
     walk lent-is =
         qed W ((‵ (flft κ₀ q₀) ⊛ ‵ (flft κ₁ q₁) ⊛ ‵ (flft κ₂ q₂) ⊛ ‵ ftrue) ∷ ‵ (owns (ShrSlice (named 0) κ₀ u8 ∷ usize ∷ MutSlice (named 1) κ₁ R.the-row ∷ MutRef (named 2) κ₂ Word ∷ []) a vals) ∷ []) ∵ enter ! C Λ code.function (vs ∷ vint w64 i ∷ vr ∷ vp ∷ []) _ $
@@ -186,7 +186,7 @@ module _ {M : Type 1} (𝓤 : URA M) (H : Heap 𝓤) (A : Atoms 𝓤) (W : Given
         keep ! (4 ∷ 1 ∷ 5 ∷ 2 ∷ 0 ∷ []) $ by ! (exits w n (zs .1 .1 .0) (ws .1 .0) (promised (now s) i ys p r (zs .1 .1 .0) n (ws .1 .0) k e t) size))))))))))))))))))))))
 
 module _ {M : Type 1} (𝓤 : URA M) (H : Heap 𝓤) (A : Atoms 𝓤) (W : Given 𝓤 H A) (mem : Memory → SProp 𝓤) (run : Routine → Fun 𝓤) (𝓣 : Tables 𝓤 H)
-    (known-build : Triple 𝓤 (𝓣 .C #polar·build-index) (Build 𝓤 H A mem run)) (known-tell : Triple 𝓤 (𝓣 .C #answers·tell-ray) (Tell 𝓤 H A mem run)) where
+    (known-build : Triple 𝓤 (𝓣 .C #records·build-index) (Build 𝓤 H A mem run)) (known-tell : Triple 𝓤 (𝓣 .C #answers·tell-ray) (Tell 𝓤 H A mem run)) where
   call-walks : Walks 𝓤 H A call.ended stayed (WpFn 𝓤 H (𝓣 .C) (𝓣 .Λ) code.function) (call.clauses 𝓤 H A mem run)
   call-walks = walked 𝓤 H A call.ended stayed (call.clauses 𝓤 H A mem run) (WpFn 𝓤 H (𝓣 .C) (𝓣 .Λ) code.function)
       (λ κs. (slice-vals, (uint-vals w64, (slice-vals, (ptr-vals, tt)))))
@@ -212,5 +212,5 @@ polar-build-index-spec 𝓤 H 𝓜 𝓖 𝓡 =
     entered 𝓤 H (tripleOf 𝓤 H (𝓖 .A) call.signature (call.spec 𝓤 H (𝓖 .A) (𝓜 .mem) (𝓡 .run)))
     (tables 𝓤 H 𝓜 𝓡 code.env .C) (tables 𝓤 H 𝓜 𝓡 code.env .Λ) #polar-build-index code.function (code.unfolded 𝓤 H 𝓜 𝓡)
     (call-meets 𝓤 H (𝓖 .A) (givenOf 𝓤 H 𝓜 𝓖) (𝓜 .mem) (𝓡 .run) (tablesOf 𝓤 H 𝓜 (tables 𝓤 H 𝓜 𝓡 code.env))
-    (cited 𝓤 H (Build 𝓤 H (𝓖 .A) (𝓜 .mem) (𝓡 .run)) 𝓜 𝓡 code.env #polar·build-index build-def.routine code.calls-polar·build-index (build-thm.met 𝓤 H 𝓜 𝓖 𝓡))
+    (cited 𝓤 H (Build 𝓤 H (𝓖 .A) (𝓜 .mem) (𝓡 .run)) 𝓜 𝓡 code.env #records·build-index build-def.routine code.calls-records·build-index (build-thm.met 𝓤 H 𝓜 𝓖 𝓡))
     (cited 𝓤 H (Tell 𝓤 H (𝓖 .A) (𝓜 .mem) (𝓡 .run)) 𝓜 𝓡 code.env #answers·tell-ray tell-def.routine code.calls-polar-c·answers·tell-ray (tell-thm.met 𝓤 H 𝓜 𝓖 𝓡)))

@@ -6,10 +6,10 @@ use lib.ListN.{length}
 use denote.Ref.{now}
 use Rattle.runs.specs.Lent.{front}
 use Rattle.cuts.specs.Records.{rayFrom}
-use Rattle.polar.proofs.Answering.{from-none, from-short, from-given, from-not}
+use Rattle.records.proofs.Answering.{from-none, from-short, from-given, from-not}
 use borrow.Author.Needs.{needs}
-use Rattle.polar.proofs.ray_levels_from_on.Statement.{statement}
-use Rattle.polar.proofs.ray_levels_from_on.Tie as tie
+use Rattle.records.proofs.ray_levels_from_on.Statement.{statement}
+use Rattle.records.proofs.ray_levels_from_on.Tie as tie
 
 rays-in-requires : tie.Need-rays-in-requires
 rays-in-requires c κs = search needs

@@ -1,9 +1,9 @@
 -- The walk over no data has nothing to lay.
 use mathlib.Core.Path.{refl}
-use Rattle.polar.proofs.Starts.{none-going}
+use Rattle.records.proofs.Starts.{none-going}
 use borrow.Author.Needs.{needs}
-use Rattle.polar.proofs.nothing_laid.Statement.{statement}
-use Rattle.polar.proofs.nothing_laid.Tie as tie
+use Rattle.records.proofs.nothing_laid.Statement.{statement}
+use Rattle.records.proofs.nothing_laid.Tie as tie
 
 at-front-requires : tie.Need-at-front-requires
 at-front-requires c κs = search needs

@@ -14,14 +14,14 @@ use Rattle.sections.specs.declared.Cut.{Cut}
 use Rattle.layout.specs.Parts.{productIn}
 use Rattle.layout.specs.Verdict.{verdict, anyDataVerdict}
 use Rattle.cuts.specs.Records.{recordsIn, usableIn, rayFrom}
 use Rattle.polar.specs.Cuts.{onCut, cutAt, cutIn}
 use Rattle.polar.specs.Rays.{ifWritten}
 use Rattle.polar.specs.declared.RayAnswer.{RayAnswer}
 use Rattle.polar.specs.declared.RayAnswer.the-variants as Y
 use Rattle.polar.specs.declared.FillRefusal.the-variants as F
-use Rattle.polar.specs.declared.RecordAnswer.{RecordAnswer}
-use Rattle.polar.specs.declared.RecordAnswer.the-variants.{Written, Refused}
-use Rattle.polar.specs.declared.RecordRefusal.the-variants.{File, Argument, Room, Record}
+use Rattle.records.specs.declared.RecordAnswer.{RecordAnswer}
+use Rattle.records.specs.declared.RecordAnswer.the-variants.{Written, Refused}
+use Rattle.records.specs.declared.RecordRefusal.the-variants.{File, Argument, Room, Record}
 
 -- "Building with fewer records than rays: 11"
 unfoldable pub buildOn : List ℕ → ℕ → Cut → RayAnswer

@@ -1,4 +1,4 @@
--- `polar::build_index` meets its contract: a walk of its MIR, by hand. It calls `task_for`, takes its answer apart and calls `lay`; the row is given up to it.
+-- `records::build_index` meets its contract: a walk of its MIR, by hand. It calls `task_for`, takes its answer apart and calls `lay`; the row is given up to it.
 -- Assumes nothing.
 use mathlib.Core.Path.{_≡_, refl, sym, ap, subst, _∙_}
 use mathlib.Core.List.{List, [], _∷_}
@@ -44,29 +44,29 @@ use Rattle.index.specs.declared.RayRecord.{RayRecord}
 use Rattle.index.specs.declared.Pace.{Pace}
 use Rattle.index.specs.Index.{records}
 use Rattle.index.specs.Pace.{dataIn, Going}
 use Rattle.polar.specs.declared.RayAnswer.{RayAnswer}
-use Rattle.polar.specs.declared.Task.{Task}
-use Rattle.polar.specs.Records.{BuildPromise}
-use Rattle.polar.specs.Building.{laidBy, Begins}
+use Rattle.records.specs.declared.Task.{Task}
+use Rattle.records.specs.Records.{BuildPromise}
+use Rattle.records.specs.Building.{laidBy, Begins}
 use Rattle.index.proofs.Pace as P
 use Rattle.index.proofs.Pace.Laws as P′
 use Rattle.index.proofs.RayRecord as R
 use Rattle.polar.proofs.RayAnswer as E
 use Rattle.polar.proofs.RayAnswer.Laws as E′
-use Rattle.polar.proofs.Task as B
-use Rattle.polar.proofs.Task.Laws as B′
-use Rattle.polar.proofs.task_for as task
-use Rattle.polar.proofs.task_for.Symbol as task-def
-use Rattle.polar.proofs.task_for.Symbol.{name as #polar·task-for}
-use Rattle.polar.proofs.task_for.Met as task-thm
+use Rattle.records.proofs.Task as B
+use Rattle.records.proofs.Task.Laws as B′
+use Rattle.records.proofs.task_for as task
+use Rattle.records.proofs.task_for.Symbol as task-def
+use Rattle.records.proofs.task_for.Symbol.{name as #records·task-for}
+use Rattle.records.proofs.task_for.Met as task-thm
 use Rattle.index.proofs.lay as lay
 use Rattle.index.proofs.lay.Symbol as lay-def
 use Rattle.index.proofs.lay.Symbol.{name as #index·lay}
 use Rattle.index.proofs.lay.Met as lay-thm
-use Rattle.polar.proofs.build_index.Key.{name as #polar·build-index}
-use Rattle.polar.proofs.build_index as build
-use Rattle.polar.proofs.build_index.Statement as stated
-use Rattle.polar.proofs.build_index.Code as code
+use Rattle.records.proofs.build_index.Key.{name as #records·build-index}
+use Rattle.records.proofs.build_index as build
+use Rattle.records.proofs.build_index.Statement as stated
+use Rattle.records.proofs.build_index.Code as code
 
 abbrev stayed : Stays (build.ended .signature .params) (build.ended .kept)
 stayed = (stay-none-slice (0 ∷ []) tt (plain (λ _. u8)) yes, (stay-none (λ _. usize) yes, (gave-slice (1 ∷ []) tt (plain (λ _. R.the-row)), tt)))
@@ -165,7 +165,7 @@ module _ {M : Type 1} (𝓤 : URA M) (H : Heap 𝓤) (A : Atoms 𝓤) (W : Given
       nothing ! $ move ! (2 ∷ 0 ∷ []) $ fjoin ! $ owned ! usize (Is usize) (uint-makes 𝓤 H A W w64) (t .rays) _ (refl, fits) $ fjoin ! $
       owned ! P.the-row (Is P.the-row) (LL.makes P.the-type P′.the-plain 𝓤 H A) (t .pace) _ is $ fjoin ! $ move ! (1 ∷ 0 ∷ []) $ fjoin ! $ done !
 
-  module _ (C : Calls 𝓤 H) (Λ : Loops 𝓤 H) (fm : FmC 𝓤 H (W .laws) C) (known-task : Triple 𝓤 (C #polar·task-for) (TaskFor 𝓤 H A mem run)) (known-lay : Triple 𝓤 (C #index·lay) (Lay 𝓤 H A mem run)) where
+  module _ (C : Calls 𝓤 H) (Λ : Loops 𝓤 H) (fm : FmC 𝓤 H (W .laws) C) (known-task : Triple 𝓤 (C #records·task-for) (TaskFor 𝓤 H A mem run)) (known-lay : Triple 𝓤 (C #index·lay) (Lay 𝓤 H A mem run)) where
     walk : Is (ShrSlice (named 0) κ₀ u8) s (vs ∷ []) → ent 𝓤 (onEntry 𝓤 H A build.signature κs (q₀, (q₁, tt)) a vals) (WpFn 𝓤 H C Λ code.function (vs ∷ vint w64 i ∷ vr ∷ []) Post)
     walk lent-is =
         qed W ((‵ (flft κ₀ q₀) ⊛ ‵ (flft κ₁ q₁) ⊛ ‵ ftrue) ∷ ‵ (owns (ShrSlice (named 0) κ₀ u8 ∷ usize ∷ MutSlice (named 1) κ₁ R.the-row ∷ []) a vals) ∷ []) ∵ enter ! C Λ code.function (vs ∷ vint w64 i ∷ vr ∷ []) _ $
@@ -203,7 +203,7 @@ module _ {M : Type 1} (𝓤 : URA M) (H : Heap 𝓤) (A : Atoms 𝓤) (W : Given
         keep ! (0 ∷ 1 ∷ 3 ∷ []) $ by ! (exits t (zs .1 .1 .1 .0) (answer-is t u is) beg e size))))))))))))))))))))
 
 module _ {M : Type 1} (𝓤 : URA M) (H : Heap 𝓤) (A : Atoms 𝓤) (W : Given 𝓤 H A) (mem : Memory → SProp 𝓤) (run : Routine → Fun 𝓤) (𝓣 : Tables 𝓤 H)
-    (known-task : Triple 𝓤 (𝓣 .C #polar·task-for) (TaskFor 𝓤 H A mem run)) (known-lay : Triple 𝓤 (𝓣 .C #index·lay) (Lay 𝓤 H A mem run)) where
+    (known-task : Triple 𝓤 (𝓣 .C #records·task-for) (TaskFor 𝓤 H A mem run)) (known-lay : Triple 𝓤 (𝓣 .C #index·lay) (Lay 𝓤 H A mem run)) where
   build-walks : Walks 𝓤 H A build.ended stayed (WpFn 𝓤 H (𝓣 .C) (𝓣 .Λ) code.function) (build.clauses 𝓤 H A mem run)
   build-walks = walked 𝓤 H A build.ended stayed (build.clauses 𝓤 H A mem run) (WpFn 𝓤 H (𝓣 .C) (𝓣 .Λ) code.function)
       (λ κs. (slice-vals, (uint-vals w64, (slice-vals, tt)))) (λ κs. (shr-slice-tells (named 0) (κs .0) u8, (uint-tells w64, (mut-slice-tells (named 1) (κs .1 .0) R.the-row, tt))))
@@ -221,7 +221,7 @@ pub build-index-spec : {M : Type 1} → stated.statement M
 unfolding code.routine tablesOf
 build-index-spec 𝓤 H 𝓜 𝓖 𝓡 =
     entered 𝓤 H (tripleOf 𝓤 H (𝓖 .A) build.signature (build.spec 𝓤 H (𝓖 .A) (𝓜 .mem) (𝓡 .run)))
-    (tables 𝓤 H 𝓜 𝓡 code.env .C) (tables 𝓤 H 𝓜 𝓡 code.env .Λ) #polar·build-index code.function (code.unfolded 𝓤 H 𝓜 𝓡)
+    (tables 𝓤 H 𝓜 𝓡 code.env .C) (tables 𝓤 H 𝓜 𝓡 code.env .Λ) #records·build-index code.function (code.unfolded 𝓤 H 𝓜 𝓡)
     (build-meets 𝓤 H (𝓖 .A) (givenOf 𝓤 H 𝓜 𝓖) (𝓜 .mem) (𝓡 .run) (tablesOf 𝓤 H 𝓜 (tables 𝓤 H 𝓜 𝓡 code.env))
-    (cited 𝓤 H (TaskFor 𝓤 H (𝓖 .A) (𝓜 .mem) (𝓡 .run)) 𝓜 𝓡 code.env #polar·task-for task-def.routine code.calls-polar·task-for (task-thm.met 𝓤 H 𝓜 𝓖 𝓡))
+    (cited 𝓤 H (TaskFor 𝓤 H (𝓖 .A) (𝓜 .mem) (𝓡 .run)) 𝓜 𝓡 code.env #records·task-for task-def.routine code.calls-records·task-for (task-thm.met 𝓤 H 𝓜 𝓖 𝓡))
     (cited 𝓤 H (Lay 𝓤 H (𝓖 .A) (𝓜 .mem) (𝓡 .run)) 𝓜 𝓡 code.env #index·lay lay-def.routine code.calls-index·lay (lay-thm.met 𝓤 H 𝓜 𝓖 𝓡)))

@@ -19,15 +19,15 @@ use Rattle.layout.specs.Parts.{dataAt, greatestIn}
 use Rattle.layout.specs.Good.{GoodCut}
 use Rattle.cuts.proofs.Places.{greatest-small, data-opens, all-levels, few-bins, ray-inside}
 use borrow.Author.Tests.{lt-ltb, le-ltb}
 use Rattle.polar.specs.Cuts.{cutIn}
 use Rattle.polar.specs.Rays.{ifWritten}
 use Rattle.polar.specs.declared.RayAnswer.{RayAnswer}
 use Rattle.polar.specs.declared.RayAnswer.the-variants.{Written, Refused}
 use Rattle.polar.specs.declared.FillRefusal.{FillRefusal}
 use Rattle.polar.specs.declared.FillRefusal.the-variants.{Room}
-use Rattle.polar.specs.declared.Task.{Task}
-use Rattle.polar.specs.Records.{buildOn, buildAnswer, rowAfter}
-use Rattle.polar.specs.Building.{startIn, LaysIn, Begins}
+use Rattle.records.specs.declared.Task.{Task}
+use Rattle.records.specs.Records.{buildOn, buildAnswer, rowAfter}
+use Rattle.records.specs.Building.{startIn, LaysIn, Begins}
 use Rattle.cuts.specs.Records.{recordsIn}
 
 -- ---- nothing to lay

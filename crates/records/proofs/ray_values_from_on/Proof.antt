@@ -8,10 +8,10 @@ use denote.Ref.{now}
 use Rattle.values.specs.Ray.{marksOf, valuesOf}
 use Rattle.layout.specs.Parts.{productIn}
 use Rattle.cuts.specs.Records.{rayFrom}
-use Rattle.polar.proofs.Answering.{from-none, from-short, from-given, from-not}
+use Rattle.records.proofs.Answering.{from-none, from-short, from-given, from-not}
 use borrow.Author.Needs.{needs}
-use Rattle.polar.proofs.ray_values_from_on.Statement.{statement}
-use Rattle.polar.proofs.ray_values_from_on.Tie as tie
+use Rattle.records.proofs.ray_values_from_on.Statement.{statement}
+use Rattle.records.proofs.ray_values_from_on.Tie as tie
 
 abbrev room : tie.Start → ℕ
 room s = min (length (now (s .args .marks))) (length (now (s .args .values)))

@@ -3,12 +3,12 @@ use mathlib.Core.Path.{_≡_, refl, sym, ap, _∙_}
 use denote.Ref.{now}
 use Rattle.layout.specs.Verdict.{verdict}
 use Rattle.layout.proofs.GoodCuts.{good-cut}
 use Rattle.polar.proofs.OnCut.{on-some, on-none, on-bad, cut-found}
-use Rattle.polar.specs.Records.{buildAnswer}
-use Rattle.polar.proofs.Starts.{none-begins, some-begins}
+use Rattle.records.specs.Records.{buildAnswer}
+use Rattle.records.proofs.Starts.{none-begins, some-begins}
 use borrow.Author.Needs.{needs}
-use Rattle.polar.proofs.task_for.Statement.{statement}
-use Rattle.polar.proofs.task_for.Tie as tie
+use Rattle.records.proofs.task_for.Statement.{statement}
+use Rattle.records.proofs.task_for.Tie as tie
 
 walk-requires : tie.Need-walk-requires
 walk-requires c κs = search needs

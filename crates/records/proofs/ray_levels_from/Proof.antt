@@ -6,11 +6,11 @@ use Rattle.layout.specs.Verdict.{anyDataVerdict}
 use Rattle.layout.proofs.GoodCuts.{any-cut}
 use Rattle.cuts.specs.Records.{rayFrom}
 use Rattle.runs.specs.Lent.{front}
-use Rattle.polar.specs.Records.{fromAnswer, ifGiven, levelsFrom}
+use Rattle.records.specs.Records.{fromAnswer, ifGiven, levelsFrom}
 use Rattle.polar.proofs.OnCut.{on-some, on-none, on-bad, cut-found}
 use borrow.Author.Needs.{needs}
-use Rattle.polar.proofs.ray_levels_from.Statement.{statement}
-use Rattle.polar.proofs.ray_levels_from.Tie as tie
+use Rattle.records.proofs.ray_levels_from.Statement.{statement}
+use Rattle.records.proofs.ray_levels_from.Tie as tie
 
 walk-any-requires : tie.Need-walk-any-requires
 walk-any-requires c κs = search needs

@@ -7,10 +7,10 @@ use Rattle.runs.specs.Lent.{front}
 use Rattle.index.specs.Pace.{Going}
 use Rattle.index.specs.declared.RayRecord.{RayRecord}
 use Rattle.sections.specs.Parts.{raysIn}
-use Rattle.polar.proofs.Starts.{build-short, build-fits, none-lays, start-laid}
+use Rattle.records.proofs.Starts.{build-short, build-fits, none-lays, start-laid}
 use borrow.Author.Needs.{needs}
-use Rattle.polar.proofs.task_on.Statement.{statement}
-use Rattle.polar.proofs.task_on.Tie as tie
+use Rattle.records.proofs.task_on.Statement.{statement}
+use Rattle.records.proofs.task_on.Tie as tie
 
 rays-in-requires : tie.Need-rays-in-requires
 rays-in-requires c κs = search needs

@@ -7,11 +7,11 @@ use Rattle.layout.proofs.GoodCuts.{any-cut}
 use Rattle.cuts.specs.Records.{rayFrom}
 use Rattle.layout.specs.Parts.{productIn}
 use Rattle.values.specs.Ray.{marksOf, valuesOf}
-use Rattle.polar.specs.Records.{fromAnswer, ifGiven, marksFrom, valuesFrom}
+use Rattle.records.specs.Records.{fromAnswer, ifGiven, marksFrom, valuesFrom}
 use Rattle.polar.proofs.OnCut.{on-some, on-none, on-bad, cut-found}
 use borrow.Author.Needs.{needs}
-use Rattle.polar.proofs.ray_values_from.Statement.{statement}
-use Rattle.polar.proofs.ray_values_from.Tie as tie
+use Rattle.records.proofs.ray_values_from.Statement.{statement}
+use Rattle.records.proofs.ray_values_from.Tie as tie
 
 walk-any-requires : tie.Need-walk-any-requires
 walk-any-requires c κs = search needs

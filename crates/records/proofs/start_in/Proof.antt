@@ -3,11 +3,11 @@ use mathlib.Core.Path.{_≡_, _∙_}
 use Prim.Native.Nat.{_+_}
 use native.Mathlib.Omega.{arith}
 use Rattle.rules.specs.Fields.{lengthAt}
-use Rattle.polar.specs.Building.{startIn}
-use Rattle.polar.proofs.Starts.{start-going}
+use Rattle.records.specs.Building.{startIn}
+use Rattle.records.proofs.Starts.{start-going}
 use borrow.Author.Needs.{needs}
-use Rattle.polar.proofs.start_in.Statement.{statement}
-use Rattle.polar.proofs.start_in.Tie as tie
+use Rattle.records.proofs.start_in.Statement.{statement}
+use Rattle.records.proofs.start_in.Tie as tie
 
 greatest-in-requires : tie.Need-greatest-in-requires
 greatest-in-requires c κs = search needs

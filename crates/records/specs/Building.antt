@@ -12,9 +12,9 @@ use Rattle.sections.specs.Parts.{binsIn}
 use Rattle.sections.specs.declared.Cut.{Cut}
 use Rattle.layout.specs.Parts.{greatestIn}
 use Rattle.cuts.specs.Records.{recordsIn}
 use Rattle.polar.specs.Rays.{ifWritten}
-use Rattle.polar.specs.Records.{buildAnswer, rowAfter}
-use Rattle.polar.specs.declared.Task.{Task}
+use Rattle.records.specs.Records.{buildAnswer, rowAfter}
+use Rattle.records.specs.declared.Task.{Task}
 
 -- the walk before the first ray of a cut
 abbrev pub startIn : List ℕ → Cut → Pace
