@@ -16,9 +16,8 @@
  *
  * Every call on a file is lent the whole file and makes all its checks itself, in this order: 1, 2, then section by
  * section 3, 9, 4, 5, 6, 7, 12, 8; then 10; then 11. Values are in hundredths: of dBZ for reflectivity, of m/s for velocity.
- * The calls by a record, polar_ray_levels_from and polar_ray_values_from, look at no data but the ray's: 12 and 8 are left
- * out, and after 11 comes 13. On a dual-polarisation file the order is 1, 2, then section by section 3, 9, 4, 5, 14, 6; then
- * 10.
+ * The calls by a record, polar_ray_levels_from and polar_ray_values_from, look at no data but the ray's: 8 is left out, and
+ * after 11 comes 13. On a dual-polarisation file the order is 1, 2, then section by section 3, 9, 4, 5, 14, 6; then 10.
  */
 #ifndef POLAR_H
 #define POLAR_H
