@@ -33,14 +33,14 @@ use Rattle.layout.specs.Checks.{ownChecks}
 use Rattle.layout.specs.Accepted.{kinds, Accepted}
 use Rattle.layout.specs.Good.{GoodCut}
 use Rattle.sections.specs.declared.Cut.{Cut}
-use Rattle.sections.specs.declared.FileRefusal.{FileRefusal}
+use Rattle.sections.specs.declared.Refusal.{Refusal}
 use Rattle.layout.proofs.Exact.{exact}
 use Rattle.layout.proofs.GoodCuts.{good-accepted}
 use Rattle.cuts.specs.Bins.{rayIn}
 use Rattle.cuts.proofs.Places.{data-opens, all-bins, level-few}
 use Rattle.cuts.proofs.Rays.{ray-length, ray-bin}
-use Rattle.polar.specs.Cuts.{onCut, cutAt}
-use Rattle.polar.proofs.ByVerdict.{file-accepted, by-file-verdict, cut-accepted}
+use Rattle.calls.specs.Cuts.{onCut, cutAt}
+use Rattle.calls.proofs.ByVerdict.{file-accepted, by-file-verdict, cut-accepted}
 use Rattle.polar.specs.Opening.{summaryOf, openAnswer, infoOf, cutAnswer}
 use Rattle.polar.specs.Rays.{rayOn, rayAnswer, levelsAfter, marksAfter, valuesAfter, binOf, binOn, binAnswer}
 use Rattle.polar.specs.declared.Summary.{Summary}
@@ -48,11 +48,11 @@ use Rattle.polar.specs.declared.Opened.{Opened}
 use Rattle.polar.specs.declared.Opened.the-variants as O
 use Rattle.polar.specs.declared.CutAnswer.{CutAnswer}
 use Rattle.polar.specs.declared.CutAnswer.the-variants as C
-use Rattle.polar.specs.declared.RayAnswer.{RayAnswer}
-use Rattle.polar.specs.declared.RayAnswer.the-variants as R
-use Rattle.polar.specs.declared.BinAnswer.{BinAnswer}
-use Rattle.polar.specs.declared.BinAnswer.the-variants as B
-use Rattle.demands.specs.Promises.{OpenPromise, CutPromise, LevelsPromise, ValuesPromise, BinPromise}
+use Rattle.calls.specs.declared.RayAnswer.{RayAnswer}
+use Rattle.calls.specs.declared.RayAnswer.the-variants as R
+use Rattle.calls.specs.declared.BinAnswer.{BinAnswer}
+use Rattle.calls.specs.declared.BinAnswer.the-variants as B
+use Rattle.polar.specs.Promises.{OpenPromise, CutPromise, LevelsPromise, ValuesPromise, BinPromise}
 use Rattle.demands.proofs.Lent.{front-at, front-past, over-beyond}
 
 -- ── accepted exactly ──
@@ -83,8 +83,8 @@ module _ (s : List ℕ) (cs : List Cut) (a : Accepted s cs) (i : ℕ) (lt : i < 
   good : GoodCut s cut
   good = good-accepted s cs a i lt
 
-  pub on-accepted : {A : Type 0} (bad : FileRefusal → A) (no-cut : A) (some : Cut → A) → onCut bad no-cut some i (verdict s) ≡ some cut
-  on-accepted bad no-cut some = cut-accepted ownChecks kinds exact s bad no-cut some i cs a lt
+  pub on-accepted : {A : Type 0} (bad : Refusal → A) (some : Cut → A) → onCut bad some i (verdict s) ≡ some cut
+  on-accepted bad some = cut-accepted ownChecks kinds exact s bad some i cs a lt
 
   pub cut-is : cutAt i (verdict s) ≡ cut
   unfolding cutAt
@@ -97,12 +97,12 @@ module _ (s : List ℕ) (cs : List Cut) (a : Accepted s cs) (i : ℕ) (lt : i < 
 
   pub cut-answers : (r : CutAnswer) → CutPromise s i r → r ≡ C.Cut (infoOf s cut)
   unfolding cutAnswer
-  cut-answers r p = p .answer ∙ on-accepted _ _ _
+  cut-answers r p = p .answer ∙ on-accepted _ _
 
   module _ (ray : ℕ) (h : ray < raysIn s cut) where
     ray-written : (room : ℕ) → binsIn s cut ≤ room → rayAnswer s i ray room ≡ R.Written
     unfolding rayAnswer rayOn
-    ray-written room k = on-accepted _ _ _ ∙ rw (lt-ltb ray (raysIn s cut) h, le-ltb room (binsIn s cut) k)
+    ray-written room k = on-accepted _ _ ∙ rw (lt-ltb ray (raysIn s cut) h, le-ltb room (binsIn s cut) k)
 
     -- ray levels: bin b of the ray at place b, and past Nb all as it was
     pub levels-answer : (out out′ : List ℕ) (r : RayAnswer) → binsIn s cut ≤ length out → LevelsPromise s i ray out r out′
@@ -154,7 +154,7 @@ module _ (s : List ℕ) (cs : List Cut) (a : Accepted s cs) (i : ℕ) (lt : i < 
     -- bin value: the reading of that bin's level
     pub bin-answer : (bin : ℕ) (r : BinAnswer) → bin < binsIn s cut → BinPromise s i ray bin r → r ≡ binOf (readingOf (productIn s cut) (levelIn s cut ray bin))
     unfolding binAnswer binOn
-    bin-answer bin r k p = p .answer ∙ on-accepted _ _ _ ∙ rw (lt-ltb ray (raysIn s cut) h, lt-ltb bin (binsIn s cut) k)
+    bin-answer bin r k p = p .answer ∙ on-accepted _ _ ∙ rw (lt-ltb ray (raysIn s cut) h, lt-ltb bin (binsIn s cut) k)
 
 -- ── the published values; level 0 never gets a number ──
 

@@ -31,8 +31,9 @@ use Rattle.cuts.specs.Bins.{stretchesIn}
 use Rattle.polar.specs.Stretching.{stretchesOn, stretchAnswer, wordsAfter}
 use Rattle.polar.specs.declared.StretchAnswer.{StretchAnswer}
 use Rattle.polar.specs.declared.StretchAnswer.the-variants as S
-use Rattle.polar.specs.declared.FillRefusal.the-variants as F
-use Rattle.demands.specs.Promises.{StretchesPromise}
+use Rattle.sections.specs.Refusal.{refuse}
+use Rattle.sections.specs.declared.Why.the-variants.{Argument, Room}
+use Rattle.polar.specs.Promises.{StretchesPromise}
 use Rattle.demands.specs.Fetching.{Fetched, none, call}
 use Rattle.demands.proofs.Demand2.{on-accepted, cut-is}
 
@@ -78,7 +79,7 @@ module _ (s : List ℕ) (cs : List Cut) (a : Accepted s cs) (i : ℕ) (lt : i < 
   call-lists ht ray bin hp words words′ r room p =
       let c = getD cs i noCut in
       let e : r ≡ S.Listed (answerOf (raysIn s c) (length words) (listOf ray bin)) =
-      p .answer ∙ on-accepted s cs a i lt _ _ _ ∙ rw (ht, hp, le-ltb (length words) 4 room) in (
+      p .answer ∙ on-accepted s cs a i lt _ _ ∙ rw (ht, hp, le-ltb (length words) perEntry room) in (
         e,
         p .after
             ∙ ap (λ (x : StretchAnswer). wordsAfter x s i t ray bin words) e
@@ -106,10 +107,10 @@ module _ (s : List ℕ) (cs : List Cut) (a : Accepted s cs) (i : ℕ) (lt : i < 
   unfolding stretchAnswer stretchesOn wordsAfter
   listing-is ray bin words words′ l p =
       let c = getD cs i noCut in
-      go (rightT t && rightPoint (binsIn s c) (raysIn s c) ray bin) (ltb (length words) perEntry) refl (p .answer ∙ on-accepted s cs a i lt _ _ _)
+      go (rightT t && rightPoint (binsIn s c) (raysIn s c) ray bin) (ltb (length words) perEntry) refl (p .answer ∙ on-accepted s cs a i lt _ _)
     where
       go : (b u : Bool) → ltb (length words) perEntry ≡ u
-          → S.Listed l ≡ cond b (cond u (S.Refused F.Room) (S.Listed (answerOf (raysIn s (getD cs i noCut)) (length words) (stretchesIn s (getD cs i noCut) t ray bin)))) (S.Refused F.Argument)
+          → S.Listed l ≡ cond b (cond u (S.Refused (refuse Room 0)) (S.Listed (answerOf (raysIn s (getD cs i noCut)) (length words) (stretchesIn s (getD cs i noCut) t ray bin)))) (S.Refused (refuse Argument 0))
           → Listing-is ray bin words words′ l
       go true false e h =
           record {

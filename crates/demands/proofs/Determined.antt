@@ -7,10 +7,10 @@ use Rattle.polar.specs.Rays.{levelsAfter, marksAfter, valuesAfter}
 use Rattle.polar.specs.Stretching.{wordsAfter}
 use Rattle.polar.specs.declared.Opened.{Opened}
 use Rattle.polar.specs.declared.CutAnswer.{CutAnswer}
-use Rattle.polar.specs.declared.RayAnswer.{RayAnswer}
-use Rattle.polar.specs.declared.BinAnswer.{BinAnswer}
+use Rattle.calls.specs.declared.RayAnswer.{RayAnswer}
+use Rattle.calls.specs.declared.BinAnswer.{BinAnswer}
 use Rattle.polar.specs.declared.StretchAnswer.{StretchAnswer}
-use Rattle.demands.specs.Promises.{OpenPromise, CutPromise, LevelsPromise, ValuesPromise, BinPromise, StretchesPromise}
+use Rattle.polar.specs.Promises.{OpenPromise, CutPromise, LevelsPromise, ValuesPromise, BinPromise, StretchesPromise}
 
 pub open-one : {s : List ℕ} {r r′ : Opened} → OpenPromise s r → OpenPromise s r′ → r ≡ r′
 open-one p q = p .answer ∙ sym (q .answer)

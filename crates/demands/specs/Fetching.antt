@@ -7,7 +7,7 @@ use lib.IntN.{ℤ}
 use Rattle.stretches.specs.Stretch.{Entry, perEntry, wordsOf}
 use Rattle.stretches.specs.declared.Listing.{Listing}
 use Rattle.polar.specs.declared.StretchAnswer.the-variants.{Listed}
-use Rattle.demands.specs.Promises.{StretchesPromise}
+use Rattle.polar.specs.Promises.{StretchesPromise}
 
 -- n calls, from the point (ray, bin) to the point (ray′, bin′), that handed over the entries es: those of each call stand at the front of its words
 pub data Fetched (s : List ℕ) (i : ℕ) (t : ℤ) : ℕ → ℕ → ℕ → List Entry → ℕ → ℕ → Type 0 where

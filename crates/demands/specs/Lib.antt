@@ -1,3 +1,1 @@
-pub mod Promises
-pub mod Reasons
 pub mod Fetching

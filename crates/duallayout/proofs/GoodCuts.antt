@@ -14,21 +14,18 @@ use Rattle.rules.proofs.Chains.{and-true-both}
 use Rattle.rules.proofs.Bounds.{nth-rule, within-is, is-exactly, bins-bound, rays-bound}
 use Rattle.scaled.specs.Scaled.{finiteSingle, Packing}
 use Rattle.sections.specs.Parts.{binsIn, raysIn}
-use Rattle.sections.specs.Verdict.{endOf, noCut, answerFor}
+use Rattle.sections.specs.Verdict.{endOf, noCut}
 use Rattle.sections.specs.Accepted.{Body, sectionAt}
-use Rattle.sections.specs.Checks.{Context}
+use Rattle.sections.specs.declared.Context.{Context}
 use Rattle.sections.specs.Refused.{AllHold}
 use Rattle.sections.specs.declared.Cut.{Cut}
-use Rattle.sections.specs.declared.Found.{Found}
-use Rattle.sections.specs.declared.Walked.the-variants as W
 use Rattle.sections.proofs.Order.{either-of}
-use Rattle.sections.proofs.Each.{contextFor, checked, each-cut, each-found}
+use Rattle.sections.proofs.Each.{contextFor, checked, each-cut}
 use Rattle.sections.proofs.There.{AllThere}
 use Rattle.duallayout.specs.Rules.{flagRules, rules3, rules5, widthRule}
 use Rattle.duallayout.specs.Fields.{referenceAt, binaryAt, decimalAt, widthAt, length7}
 use Rattle.duallayout.specs.Checks.{ownChecks}
 use Rattle.duallayout.specs.Parts.{referenceIn, binaryIn, decimalIn, widthIn}
-use Rattle.duallayout.specs.Verdict.{verdict}
 use Rattle.duallayout.specs.Accepted.{Section3, kinds, Accepted}
 use Rattle.duallayout.specs.Good.{GoodCut}
 use Rattle.duallayout.proofs.Own.{says}
@@ -82,6 +79,3 @@ good-body s first s3 at c next h three b =
 
 pub good-accepted : (s : List ℕ) (cs : List Cut) → Accepted s cs → (i : ℕ) → i < length cs → GoodCut s (getD cs i noCut)
 good-accepted s = each-cut kinds s (GoodCut s) (good-body s)
-
-pub good-cut : (s : List ℕ) (i : ℕ) (f : Found) → answerFor i (verdict s) ≡ W.Whole f → i < f .cuts → GoodCut s (f .cut)
-good-cut s = each-found kinds s (GoodCut s) (good-body s) ownChecks says

@@ -13,7 +13,8 @@ use Rattle.rules.specs.Fields.{lengthAt, raysAt, pointsAt, parameterAt}
 use Rattle.rules.proofs.Chains.{and-true-both, both}
 use Rattle.rules.proofs.Bounds.{points-bound}
 use Rattle.scaled.specs.Scaled.{finiteSingle}
-use Rattle.sections.specs.Checks.{Context}
+use Rattle.sections.specs.Refusal.{refuse}
+use Rattle.sections.specs.declared.Context.{Context}
 use Rattle.sections.specs.Refused.{AllHold}
 use Rattle.sections.specs.Accepted.{sectionAt}
 use Rattle.sections.proofs.There.{AllThere, Known}
@@ -119,7 +120,7 @@ few-points s x at h = points-bound s at 50121 flagRules (h .1 .0)
 
 -- and each check names the section's place
 pub own-at : OwnAt ownChecks
-unfolding ownChecks
+unfolding ownChecks refuse
 own-at s x at n =
     either (eqb n 3) at _ _ (refl, (refl, (refl, (refl, tt))))
     (either (eqb n 4) at _ _ (refl, (refl, tt))

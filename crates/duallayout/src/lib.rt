@@ -4,9 +4,9 @@
 //
 // What is to be believed stands in specs/Accepted.antt, by the octets of each section, and in specs/Checks.antt, by places and in the order of checks,
 // with the rule lists of specs/Rules.antt; proofs/Exact.antt has the theorems that `verdict` accepts and refuses exactly these files.
-use sections::FileRefusal;
+use sections::Context;
 use sections::Judged;
-use sections::State;
+use sections::Why;
 ghost use mathlib.Core.Path.{_≡_};
 ghost use mathlib.Core.Bool.{_&&_};
 ghost use Prim.Native.Nat.{_≤_};
@@ -14,7 +14,6 @@ ghost use Rattle.rules.specs.Rules.{meets, meetsAll};
 ghost use Rattle.rules.specs.Fields.{raysAt, pointsAt};
 ghost use Rattle.scaled.specs.Scaled.{finiteSingle};
 ghost use Rattle.sections.specs.Verdict.{firstFault};
-ghost use Rattle.sections.specs.Places.{contextIn};
 ghost use Rattle.duallayout.specs.Rules.{rules3, scanRules, rules4, rules5, widthRule};
 ghost use Rattle.duallayout.specs.Fields.{withLists, referenceAt, widthAt, length7};
 ghost use Rattle.duallayout.specs.Checks.{checks3, checks4, checks5, checks7, ownChecks};
@@ -98,74 +97,69 @@ fn length7_at(s: &[u8], section3: usize, section5: usize) -> u64
 
 // Each kind of section.
 
-fn judge3(s: &[u8], st: State) -> Judged
-    ensures { λ r. ⌜ r ≡ firstFault (checks3 (now (s .entry)) (st .at)) ⌝ }
+fn judge3(s: &[u8], at: usize) -> Judged
+    ensures { λ r. ⌜ r ≡ firstFault (checks3 (now (s .entry)) at) ⌝ }
 {
-    let at = st.at;
     let len = rules::wide(rules::field32(s, at, 1));
     let due = with_lists(s, at, at, 58, 53, 54);
     let fields = fields3(s, at);
     let scan = scan_fields(s, at);
     let said = rules::wide(rules::field32(s, at, 7));
     let points = rules::points_at(s, at);
-    let last = sections::unless(said == points, FileRefusal::Points(at), sections::fine());
-    let past5 = sections::unless(scan, FileRefusal::Unread(at), last);
-    let past4 = sections::unless(fields, FileRefusal::Field(at), past5);
-    sections::unless(len == due, FileRefusal::Length(at), past4)
+    let last = sections::check(said == points, Why::Points, at, sections::accepted());
+    let past5 = sections::check(scan, Why::Unread, at, last);
+    let past4 = sections::check(fields, Why::Field, at, past5);
+    sections::check(len == due, Why::SectionLength, at, past4)
 }
 
-fn judge4(s: &[u8], st: State) -> Judged
-    ensures { λ r. ⌜ r ≡ firstFault (checks4 (now (s .entry)) (contextIn st) (st .at)) ⌝ }
+fn judge4(s: &[u8], x: Context, at: usize) -> Judged
+    ensures { λ r. ⌜ r ≡ firstFault (checks4 (now (s .entry)) x at) ⌝ }
 {
-    let at = st.at;
     let len = rules::wide(rules::field32(s, at, 1));
-    let due = with_lists(s, st.section3, at, 61, 56, 57);
-    let first = sections::first_in(st);
-    let parameter = rules::field8(s, first, 11);
-    let site = rules::field16(s, first, 28);
+    let due = with_lists(s, x.section3, at, 61, 56, 57);
+    let parameter = rules::field8(s, x.first, 11);
+    let site = rules::field16(s, x.first, 28);
     let fields = fields4(s, at, parameter, site);
-    let past4 = sections::unless(fields, FileRefusal::Field(at), sections::fine());
-    sections::unless(due <= len, FileRefusal::Length(at), past4)
+    let past4 = sections::check(fields, Why::Field, at, sections::accepted());
+    sections::check(due <= len, Why::SectionLength, at, past4)
 }
 
-fn judge5(s: &[u8], st: State) -> Judged
-    ensures { λ r. ⌜ r ≡ firstFault (checks5 (now (s .entry)) (contextIn st) (st .at)) ⌝ }
+fn judge5(s: &[u8], x: Context, at: usize) -> Judged
+    ensures { λ r. ⌜ r ≡ firstFault (checks5 (now (s .entry)) x at) ⌝ }
 {
-    let at = st.at;
     let len = rules::field32(s, at, 1);
     let named = fields5(s, at);
     let packing = packing_ok(s, at);
     let said = rules::wide(rules::field32(s, at, 6));
-    let points = rules::points_at(s, st.section3);
-    let last = sections::unless(said == points, FileRefusal::Points(at), sections::fine());
-    let past5 = sections::unless(packing, FileRefusal::Unread(at), last);
-    let past4 = sections::unless(named, FileRefusal::Field(at), past5);
-    sections::unless(len == 21, FileRefusal::Length(at), past4)
+    let points = rules::points_at(s, x.section3);
+    let last = sections::check(said == points, Why::Points, at, sections::accepted());
+    let past5 = sections::check(packing, Why::Unread, at, last);
+    let past4 = sections::check(named, Why::Field, at, past5);
+    sections::check(len == 21, Why::SectionLength, at, past4)
 }
 
-pub fn judge7(s: &[u8], st: State) -> Judged
-    requires { ⌜ pointsAt (now s) (st .section3) ≤ 2097152 ⌝ }
-    ensures { λ r. ⌜ r ≡ firstFault (checks7 (now (s .entry)) (contextIn st) (st .at)) ⌝ }
+pub fn judge7(s: &[u8], x: Context, at: usize) -> Judged
+    requires { ⌜ pointsAt (now s) (x .section3) ≤ 2097152 ⌝ }
+    ensures { λ r. ⌜ r ≡ firstFault (checks7 (now (s .entry)) x at) ⌝ }
 {
-    let at = st.at;
     let len = rules::wide(rules::field32(s, at, 1));
-    let due = length7_at(s, st.section3, st.section5);
-    sections::unless(len == due, FileRefusal::Length(at), sections::fine())
+    let due = length7_at(s, x.section3, x.section5);
+    sections::check(len == due, Why::SectionLength, at, sections::accepted())
 }
 
 // The checks of a section of the format's own other than a 7, which has its function above.
-pub fn judge(s: &[u8], st: State, n: u8) -> Judged
+pub fn judge(s: &[u8], x: Context, at: usize, n: u8) -> Judged
     requires { ⌜ (n ≡ 7 → ⊥) ⌝ }
-    ensures { λ r. ⌜ r ≡ firstFault (ownChecks (now (s .entry)) (contextIn st) (st .at) n) ⌝ }
+    ensures { λ r. ⌜ r ≡ firstFault (ownChecks (now (s .entry)) x at n) ⌝ }
 {
     if n == 3 {
-        return judge3(s, st);
+        return judge3(s, at);
     }
     if n == 4 {
-        return judge4(s, st);
+        return judge4(s, x, at);
     }
     if n == 5 {
-        return judge5(s, st);
+        return judge5(s, x, at);
     }
-    Judged::Fine
+    Judged::Accepted
 }

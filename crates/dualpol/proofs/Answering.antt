@@ -10,9 +10,10 @@ use Rattle.scaled.specs.declared.Cell.the-variants as L
 use Rattle.sections.specs.Parts.{binsIn, raysIn}
 use Rattle.sections.specs.declared.Cut.{Cut}
 use Rattle.duallayout.specs.Parts.{referenceIn, binaryIn, decimalIn, cellIn, toldIn}
-use Rattle.polar.specs.declared.AskRefusal.the-variants.{Argument}
+use Rattle.sections.specs.Refusal.{refuse}
+use Rattle.sections.specs.declared.Why.the-variants.{Argument}
 use Rattle.dualpol.specs.Answers.{binOf, binOn, RightIn}
-use Rattle.polar.specs.declared.BinAnswer.the-variants.{Refused}
+use Rattle.calls.specs.declared.BinAnswer.the-variants.{Refused}
 
 -- what is right of numbers that are read is right of the fields
 pub right-at : (x : Cell) {b b′ z z′ e e′ d d′ : ℕ} → b ≡ b′ → z ≡ z′ → e ≡ e′ → d ≡ d′ → RightCell x b z e d → RightCell x b′ z′ e′ d′
@@ -21,11 +22,11 @@ right-at x {b} {b′} {z} {z′} {e} {e′} {d} {d′} p q r t h =
     (subst (λ (y : ℕ). RightCell x b′ z′ y d) r (subst (λ (y : ℕ). RightCell x b′ y e d) q (subst (λ (y : ℕ). RightCell x y z e d) p h)))
 
 module _ (s : List ℕ) (c : Cut) (ray bin : ℕ) where
-  pub no-ray : raysIn s c ≤ ray → Refused Argument ≡ binOn s ray bin c
+  pub no-ray : raysIn s c ≤ ray → Refused (refuse Argument 0) ≡ binOn s ray bin c
   unfolding binOn
   no-ray h = rw (le-ltb ray (raysIn s c) h)
 
-  pub no-bin : binsIn s c ≤ bin → Refused Argument ≡ binOn s ray bin c
+  pub no-bin : binsIn s c ≤ bin → Refused (refuse Argument 0) ≡ binOn s ray bin c
   unfolding binOn
   no-bin h = rw (le-ltb bin (binsIn s c) h, and-false)
 

@@ -17,19 +17,20 @@ use Rattle.scaled.specs.declared.Cell.the-variants as L
 use Rattle.sections.specs.Parts.{binsIn, raysIn, gridAt}
 use Rattle.sections.specs.Verdict.{noCut}
 use Rattle.sections.specs.declared.Cut.{Cut}
-use Rattle.sections.specs.declared.FileRefusal.{FileRefusal}
+use Rattle.sections.specs.Refusal.{refuse}
+use Rattle.sections.specs.declared.Refusal.{Refusal}
+use Rattle.sections.specs.declared.Why.the-variants.{Argument}
 use Rattle.duallayout.specs.Checks.{ownChecks}
 use Rattle.duallayout.specs.Accepted.{kinds, Accepted}
 use Rattle.duallayout.specs.Verdict.{verdict, RefusedBy}
 use Rattle.duallayout.specs.Parts.{referenceIn, binaryIn, decimalIn, widthIn, cellIn, toldIn}
 use Rattle.duallayout.proofs.Exact.{exact}
-use Rattle.polar.specs.Cuts.{cutAt}
-use Rattle.polar.specs.Reasons.{AskReason}
-use Rattle.polar.specs.declared.AskRefusal.{AskRefusal}
-use Rattle.polar.specs.declared.AskRefusal.the-variants.{Argument}
-use Rattle.polar.specs.declared.BinAnswer.{BinAnswer}
-use Rattle.polar.specs.declared.BinAnswer.the-variants as B
-use Rattle.polar.proofs.ByVerdict.{file-refused, file-accepted, by-file-verdict, cut-accepted, ask-reason}
+use Rattle.calls.specs.Cuts.{cutAt}
+use Rattle.calls.specs.Reasons.{Reason, Asking, by-argument, by-room, by-record}
+use Rattle.calls.specs.declared.BinAnswer.{BinAnswer}
+use Rattle.calls.specs.declared.BinAnswer.the-variants as B
+use Rattle.calls.proofs.ByVerdict.{file-refused, file-accepted, by-file-verdict, cut-accepted, reason, by-reason}
+use Rattle.dualpol.proofs.Answering.{no-ray, no-bin}
 use Rattle.dualpol.specs.Answers.{summaryOf, openAnswer, OpenPromise, cutAnswer, CutPromise, binOf, binOn, binAnswer, RightIn, BinPromise}
 use Rattle.dualpol.specs.declared.DualSummary.{DualSummary}
 use Rattle.dualpol.specs.declared.DualOpened.{DualOpened}
@@ -39,7 +40,7 @@ use Rattle.dualpol.specs.declared.DualCut.the-variants as C
 
 -- ── accepted exactly, refused exactly: open ──
 
-pub open-refused : (s : List ℕ) (r : FileRefusal) → OpenPromise s (O.Refused r) → RefusedBy s r
+pub open-refused : (s : List ℕ) (r : Refusal) → OpenPromise s (O.Refused r) → RefusedBy s r
 unfolding openAnswer
 open-refused s r p =
     by-file-verdict ownChecks kinds exact s O.Refused (λ n c. O.File (summaryOf s n c)) (O.Refused r) (RefusedBy s r)
@@ -47,7 +48,7 @@ open-refused s r p =
     (λ cs k e. let z : _≡_ {A = ℕ} 0 1 = cc e in absurd (omega arith))
     (sym p)
 
-pub refused-open : (s : List ℕ) (r : FileRefusal) (a : DualOpened) → RefusedBy s r → OpenPromise s a → a ≡ O.Refused r
+pub refused-open : (s : List ℕ) (r : Refusal) (a : DualOpened) → RefusedBy s r → OpenPromise s a → a ≡ O.Refused r
 unfolding openAnswer
 refused-open s r a h p = p ∙ file-refused ownChecks kinds exact s _ _ r h
 
@@ -68,36 +69,62 @@ open-accepted s m p =
     (λ cs k e. record { cs = cs; accepts = k; summary = cc e })
     (sym p)
 
--- ── why the others refuse: the file's own, then 10 ──
+-- ── why the others refuse, both ways: the file's own, then 10 ──
 
-pub cut-refused : (s : List ℕ) (i : ℕ) (q : AskRefusal) → CutPromise s i (C.Refused q) → AskReason ownChecks kinds s i (λ c. ⊥) q
+abbrev pub CutReasons : List ℕ → ℕ → Refusal → Type 0
+CutReasons s i = Reason ownChecks kinds s i (Asking (λ c. ⊥))
+
+pub cut-refused : (s : List ℕ) (i : ℕ) (q : Refusal) → CutPromise s i (C.Refused q) → CutReasons s i q
 unfolding cutAnswer
 cut-refused s i q p =
-    ask-reason ownChecks kinds exact s C.Refused (λ p q e. cc e) (λ c. C.Cut (gridAt s (c .section3))) i (λ c. ⊥) q
+    reason ownChecks kinds exact s C.Refused (λ c. C.Cut (gridAt s (c .section3))) i (Asking (λ c. ⊥)) q (λ r e. cc e)
     (λ c e. let z : _≡_ {A = ℕ} 0 1 = cc e in absurd (omega arith))
     (sym p)
+
+no-fault : {A : Type 0} (some : Cut → A) (Refused : Refusal → A) (c : Cut) (r : Refusal) → Asking (λ c. ⊥) c r → some c ≡ Refused r
+no-fault some Refused c r (by-argument w) = absurd w
+no-fault some Refused c r (by-room w x) = absurd x
+no-fault some Refused c r (by-record w x y) = absurd y
+
+pub refused-cut : (s : List ℕ) (i : ℕ) (q : Refusal) (a : DualCut) → CutReasons s i q → CutPromise s i a → a ≡ C.Refused q
+unfolding cutAnswer
+refused-cut s i q a h p = p ∙ by-reason ownChecks kinds exact s C.Refused _ i (Asking (λ c. ⊥)) q (no-fault _ C.Refused) h
 
 abbrev pub BinWrong : List ℕ → ℕ → ℕ → Cut → Type 0
 BinWrong s ray bin c = (raysIn s c ≤ ray) ⊎ (binsIn s c ≤ bin)
 
+abbrev pub BinReasons : List ℕ → ℕ → ℕ → ℕ → Refusal → Type 0
+BinReasons s i ray bin = Reason ownChecks kinds s i (Asking (BinWrong s ray bin))
+
 -- a cell is no refusal
-cell-answers : (x : Cell) (q : AskRefusal) → binOf x ≡ B.Refused q → ⊥
+cell-answers : (x : Cell) (q : Refusal) → binOf x ≡ B.Refused q → ⊥
 unfolding binOf
 cell-answers L.Missing q h = let z : _≡_ {A = ℕ} 0 1 = cc in omega arith
 cell-answers (L.Value y) q h = let z : _≡_ {A = ℕ} 0 1 = cc in omega arith
 
-pub bin-refused : (s : List ℕ) (i ray bin : ℕ) (q : AskRefusal) → BinPromise s i ray bin (B.Refused q) → AskReason ownChecks kinds s i (BinWrong s ray bin) q
+pub bin-refused : (s : List ℕ) (i ray bin : ℕ) (q : Refusal) → BinPromise s i ray bin (B.Refused q) → BinReasons s i ray bin q
 unfolding binAnswer binOn
 bin-refused s i ray bin q p =
-    ask-reason ownChecks kinds exact s B.Refused (λ p q e. cc e) (binOn s ray bin) i (BinWrong s ray bin) q
+    reason ownChecks kinds exact s B.Refused (binOn s ray bin) i (Asking (BinWrong s ray bin)) q (λ r e. cc e)
     (λ c e. split c (ltb ray (raysIn s c)) (ltb bin (binsIn s c)) refl refl e)
     (sym (p .answer))
   where
     split : (c : Cut) (t u : Bool) → ltb ray (raysIn s c) ≡ t → ltb bin (binsIn s c) ≡ u
-        → cond (t && u) (binOf (toldIn s c ray bin)) (B.Refused Argument) ≡ B.Refused q → (q ≡ Argument) × BinWrong s ray bin c
-    split c false u a b e = (cc e, inl (ltb-false _ _ a))
-    split c true false a b e = (cc e, inr (ltb-false _ _ b))
+        → cond (t && u) (binOf (toldIn s c ray bin)) (B.Refused (refuse Argument 0)) ≡ B.Refused q → Asking (BinWrong s ray bin) c q
+    split c false u a b e = let same : refuse Argument 0 ≡ q = cc e in rw (sym same) (by-argument (inl (ltb-false _ _ a)))
+    split c true false a b e = let same : refuse Argument 0 ≡ q = cc e in rw (sym same) (by-argument (inr (ltb-false _ _ b)))
     split c true true a b e = absurd (cell-answers _ q e)
+
+bin-fault : (s : List ℕ) (ray bin : ℕ) (c : Cut) (r : Refusal) → Asking (BinWrong s ray bin) c r → binOn s ray bin c ≡ B.Refused r
+bin-fault s ray bin c r (by-argument (inl w)) = sym (no-ray s c ray bin w)
+bin-fault s ray bin c r (by-argument (inr w)) = sym (no-bin s c ray bin w)
+bin-fault s ray bin c r (by-room w x) = absurd x
+bin-fault s ray bin c r (by-record w x y) = absurd y
+
+pub refused-bin : (s : List ℕ) (i ray bin : ℕ) (q : Refusal) (a : BinAnswer) → BinReasons s i ray bin q → BinPromise s i ray bin a → a ≡ B.Refused q
+unfolding binAnswer
+refused-bin s i ray bin q a h p =
+    p .answer ∙ by-reason ownChecks kinds exact s B.Refused (binOn s ray bin) i (Asking (BinWrong s ray bin)) q (bin-fault s ray bin) h
 
 -- ── a cut of an accepted file ──
 
@@ -111,12 +138,12 @@ module _ (s : List ℕ) (cs : List Cut) (a : Accepted s cs) (i : ℕ) (lt : i < 
 
   pub cut-answers : (r : DualCut) → CutPromise s i r → r ≡ C.Cut (gridAt s (cut .section3))
   unfolding cutAnswer
-  cut-answers r p = p ∙ cut-accepted ownChecks kinds exact s _ _ _ i cs a lt
+  cut-answers r p = p ∙ cut-accepted ownChecks kinds exact s _ _ i cs a lt
 
   module _ (ray bin : ℕ) (h : ray < raysIn s cut) (k : bin < binsIn s cut) where
     bin-told : (r : BinAnswer) → BinPromise s i ray bin r → r ≡ binOf (toldIn s cut ray bin)
     unfolding binAnswer binOn
-    bin-told r p = p .answer ∙ cut-accepted ownChecks kinds exact s _ _ _ i cs a lt ∙ rw (lt-ltb ray (raysIn s cut) h, lt-ltb bin (binsIn s cut) k)
+    bin-told r p = p .answer ∙ cut-accepted ownChecks kinds exact s _ _ i cs a lt ∙ rw (lt-ltb ray (raysIn s cut) h, lt-ltb bin (binsIn s cut) k)
 
     -- all ones is missing, and nothing else is
     pub missing-answer : (r : BinAnswer) → BinPromise s i ray bin r → cellIn s cut ray bin ≡ 2 ^ widthIn s cut - 1 → r ≡ B.Missing

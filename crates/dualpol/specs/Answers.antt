@@ -13,10 +13,11 @@ use Rattle.sections.specs.declared.Cut.{Cut}
 use Rattle.duallayout.specs.Fields.{siteAt}
 use Rattle.duallayout.specs.Parts.{referenceIn, binaryIn, decimalIn, cellIn, toldIn}
 use Rattle.duallayout.specs.Verdict.{verdict}
-use Rattle.polar.specs.Cuts.{onFile, onCut, cutAt}
-use Rattle.polar.specs.declared.AskRefusal.the-variants.{File, Argument}
-use Rattle.polar.specs.declared.BinAnswer.{BinAnswer}
-use Rattle.polar.specs.declared.BinAnswer.the-variants as B
+use Rattle.calls.specs.Cuts.{onFile, onCut, cutAt}
+use Rattle.sections.specs.Refusal.{refuse}
+use Rattle.sections.specs.declared.Why.the-variants.{Argument}
+use Rattle.calls.specs.declared.BinAnswer.{BinAnswer}
+use Rattle.calls.specs.declared.BinAnswer.the-variants as B
 use Rattle.dualpol.specs.declared.DualSummary.{DualSummary}
 use Rattle.dualpol.specs.declared.DualOpened.{DualOpened}
 use Rattle.dualpol.specs.declared.DualOpened.the-variants as O
@@ -37,7 +38,7 @@ OpenPromise s r = r ≡ openAnswer s
 -- ── cut: "Nb to Dstart" ──
 
 unfoldable pub cutAnswer : List ℕ → ℕ → DualCut
-cutAnswer s i = onCut (λ r. C.Refused (File r)) (C.Refused Argument) (λ c. C.Cut (gridAt s (c .section3))) i (verdict s)
+cutAnswer s i = onCut C.Refused (λ c. C.Cut (gridAt s (c .section3))) i (verdict s)
 
 abbrev pub CutPromise : List ℕ → ℕ → DualCut → Type 0
 CutPromise s i r = r ≡ cutAnswer s i
@@ -49,10 +50,10 @@ binOf L.Missing = B.Missing
 binOf (L.Value x) = B.Value x
 
 unfoldable pub binOn : List ℕ → ℕ → ℕ → Cut → BinAnswer
-binOn s ray bin c = cond (ltb ray (raysIn s c) && ltb bin (binsIn s c)) (binOf (toldIn s c ray bin)) (B.Refused Argument)
+binOn s ray bin c = cond (ltb ray (raysIn s c) && ltb bin (binsIn s c)) (binOf (toldIn s c ray bin)) (B.Refused (refuse Argument 0))
 
 unfoldable pub binAnswer : List ℕ → ℕ → ℕ → ℕ → BinAnswer
-binAnswer s i ray bin = onCut (λ r. B.Refused (File r)) (B.Refused Argument) (binOn s ray bin) i (verdict s)
+binAnswer s i ray bin = onCut B.Refused (binOn s ray bin) i (verdict s)
 
 -- a value is within |Y| / 2^51 of the exact Y, and zero where Y is 0
 abbrev pub RightIn : List ℕ → ℕ → ℕ → Cut → BinAnswer → Type 0

@@ -1,14 +1,15 @@
 // THE CALLS of a dual-polarisation file: wish 6. Each is lent the whole file, makes all the file's checks itself, then answers or refuses by 10; none asks
 // anything of its caller. What each answers is one definition of specs/. Below it stand `walks` (the file's checks), `duallayout` (this format's own
-// sections), `scaled` (what a cell tells) and `polar`, whose refusals it shares; above it `polar_c` (the calls for C and Rust).
-use polar::AskRefusal;
-use polar::BinAnswer;
+// sections), `scaled` (what a cell tells) and `calls`; above it `polar_c` (the calls for C and Rust).
+use calls::BinAnswer;
+use calls::Sought;
 use scaled::Cell;
 use sections::Cut;
-use sections::FileRefusal;
 use sections::Grid;
+use sections::Refusal;
 use sections::Time;
-use sections::Walked;
+use sections::Why;
+use walks::Walked;
 ghost use mathlib.Core.Path.{_≡_};
 ghost use mathlib.Core.Logic.{_⊎_};
 ghost use Prim.Native.Nat.{_+_, _*_, _/_, _≤_, _<_};
@@ -30,12 +31,12 @@ pub struct DualSummary {
 
 pub enum DualOpened {
     File(DualSummary),
-    Refused(FileRefusal),
+    Refused(Refusal),
 }
 
 pub enum DualCut {
     Cut(Grid),
-    Refused(AskRefusal),
+    Refused(Refusal),
 }
 
 // ---- open and cut
@@ -60,11 +61,11 @@ pub fn open(file: &[u8]) -> DualOpened
     ensures { λ r. ⌜ OpenPromise (now (file .entry)) r ⌝ }
 {
     match walks::walk_dual(file, 0) {
-        Walked::Whole(f) => {
+        Walked::Accepted(f) => {
             let c = f.cut;
             DualOpened::File(summary_of(file, f.cuts, c))
         }
-        Walked::Rejected(refusal) => DualOpened::Refused(refusal),
+        Walked::Refused(refusal) => DualOpened::Refused(refusal),
     }
 }
 
@@ -72,15 +73,9 @@ pub fn open(file: &[u8]) -> DualOpened
 pub fn cut_info(file: &[u8], i: usize) -> DualCut
     ensures { λ r. ⌜ CutPromise (now (file .entry)) i r ⌝ }
 {
-    match walks::walk_dual(file, i) {
-        Walked::Whole(f) => {
-            let c = f.cut;
-            if i < f.cuts {
-                return DualCut::Cut(sections::grid_at(file, c.section3));
-            }
-            DualCut::Refused(AskRefusal::Argument)
-        }
-        Walked::Rejected(refusal) => DualCut::Refused(AskRefusal::File(refusal)),
+    match calls::find_dual(file, i) {
+        Sought::Cut(c) => DualCut::Cut(sections::grid_at(file, c.section3)),
+        Sought::Refused(refusal) => DualCut::Refused(refusal),
     }
 }
 
@@ -131,10 +126,16 @@ fn bin_value_on(file: &[u8], c: Cut, ray: usize, bin: usize) -> BinAnswer
     let nr = sections::rays_in(file, c);
     let nb = sections::bins_in(file, c);
     if nr <= ray {
-        return BinAnswer::Refused(AskRefusal::Argument);
+        return BinAnswer::Refused(Refusal {
+            why: Why::Argument,
+            place: 0,
+        });
     }
     if nb <= bin {
-        return BinAnswer::Refused(AskRefusal::Argument);
+        return BinAnswer::Refused(Refusal {
+            why: Why::Argument,
+            place: 0,
+        });
     }
     bin_of(told_in(file, c, ray, bin))
 }
@@ -143,14 +144,8 @@ fn bin_value_on(file: &[u8], c: Cut, ray: usize, bin: usize) -> BinAnswer
 pub fn bin_value(file: &[u8], i: usize, ray: usize, bin: usize) -> BinAnswer
     ensures { λ r. ⌜ BinPromise (now (file .entry)) i ray bin r ⌝ }
 {
-    match walks::walk_dual(file, i) {
-        Walked::Whole(f) => {
-            let c = f.cut;
-            if i < f.cuts {
-                return bin_value_on(file, c, ray, bin);
-            }
-            BinAnswer::Refused(AskRefusal::Argument)
-        }
-        Walked::Rejected(refusal) => BinAnswer::Refused(AskRefusal::File(refusal)),
+    match calls::find_dual(file, i) {
+        Sought::Cut(c) => bin_value_on(file, c, ray, bin),
+        Sought::Refused(refusal) => BinAnswer::Refused(refusal),
     }
 }

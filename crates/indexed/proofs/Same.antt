@@ -28,31 +28,16 @@ use Rattle.layout.proofs.AnyData.{any-same}
 use Rattle.cuts.specs.Bins.{rayIn}
 use Rattle.cuts.specs.Records.{recordsIn, usableIn, rayFrom}
 use Rattle.cuts.proofs.Places.{ray-gives}
-use Rattle.polar.specs.Cuts.{onCut, cutAt, cutIn}
-use Rattle.polar.specs.Rays.{rayOn, rayAnswer, ifWritten, levelsAfter, marksAfter, valuesAfter}
-use Rattle.records.specs.Records.{fromOn, fromAnswer, ifGiven, cutAnyData, levelsFrom, marksFrom, valuesFrom, buildOn, buildAnswer, rowAfter, BuildPromise}
-use Rattle.polar.specs.declared.RayAnswer.{RayAnswer}
-use Rattle.polar.specs.declared.RayAnswer.the-variants as Y
-use Rattle.polar.specs.declared.FillRefusal.the-variants as F
-use Rattle.records.specs.declared.RecordAnswer.{RecordAnswer}
-use Rattle.records.specs.declared.RecordAnswer.the-variants as R
-use Rattle.records.specs.declared.RecordRefusal.the-variants as Q
-use Rattle.polar.proofs.ByVerdict.{by-verdict}
-use Rattle.demands.specs.Promises.{LevelsPromise, ValuesPromise}
-use Rattle.indexed.specs.Promises.{LevelsFromPromise, ValuesFromPromise}
-
--- the plain call's answer, said by the other: the same number and place
-abbrev pub asFrom : RayAnswer → RecordAnswer
-asFrom Y.Written = R.Written
-asFrom (Y.Refused (F.File r)) = R.Refused (Q.File r)
-asFrom (Y.Refused F.Argument) = R.Refused Q.Argument
-asFrom (Y.Refused F.Room) = R.Refused Q.Room
-
-if-same : {A : Type 0} (a : RayAnswer) (new old : A) → ifGiven (asFrom a) new old ≡ ifWritten a new old
-if-same Y.Written new old = refl
-if-same (Y.Refused (F.File r)) new old = refl
-if-same (Y.Refused F.Argument) new old = refl
-if-same (Y.Refused F.Room) new old = refl
+use Rattle.calls.specs.Cuts.{onCut, cutAt, cutIn, cutAnyData, ifWritten}
+use Rattle.calls.specs.declared.RayAnswer.{RayAnswer}
+use Rattle.calls.specs.declared.RayAnswer.the-variants.{Written, Refused}
+use Rattle.sections.specs.Refusal.{refuse}
+use Rattle.sections.specs.declared.Why.the-variants.{Argument, Room}
+use Rattle.polar.specs.Rays.{rayOn, rayAnswer, levelsAfter, marksAfter, valuesAfter}
+use Rattle.records.specs.Records.{fromOn, fromAnswer, levelsFrom, marksFrom, valuesFrom, buildOn, buildAnswer, rowAfter}
+use Rattle.calls.proofs.ByVerdict.{by-verdict}
+use Rattle.polar.specs.Promises.{LevelsPromise, ValuesPromise}
+use Rattle.records.specs.Promises.{BuildPromise, LevelsFromPromise, ValuesFromPromise}
 
 -- ---- a good cut and a ray of it
 module _ (s : List ℕ) (c : Cut) (g : GoodCut s c) (ray : ℕ) (inside : ray < raysIn s c) (e : RayRecord) where
@@ -69,14 +54,10 @@ module _ (s : List ℕ) (c : Cut) (g : GoodCut s c) (ray : ℕ) (inside : ray < 
       built-from (greatestIn s c) (binsIn s c) (raysIn s c) (dataAt s (c .section7)) (g .any .bins-some) (g .exact) ray inside e
       ∙ ray-gives s c g (greatestIn s c) (dataAt s (c .section7)) refl refl (binsIn s c) ray refl inside
 
-  same-on : (room : ℕ) → fromOn s ray made room c ≡ asFrom (rayOn s ray room c)
+  same-on : (room : ℕ) → fromOn s ray made room c ≡ rayOn s ray room c
   unfolding fromOn rayOn
   same-on room =
-      rw (lt-ltb ray (raysIn s c) inside, made-usable) (short (ltb room (binsIn s c)))
-    where
-      short : (b : Bool) → cond b (R.Refused Q.Room) R.Written ≡ asFrom (cond b (Y.Refused F.Room) Y.Written)
-      short true = refl
-      short false = refl
+      rw (lt-ltb ray (raysIn s c) inside, made-usable)
 
 -- ---- an accepted file, a cut of it, and a record that is the one building made where the cut has the ray
 module _ (s : List ℕ) (cs : List Cut) (whole : verdict s ≡ accepted cs) (i : ℕ) (some : i < length cs) (ray : ℕ) (rec e : RayRecord)
@@ -89,48 +70,48 @@ module _ (s : List ℕ) (cs : List Cut) (whole : verdict s ≡ accepted cs) (i :
 
   by-record : (room : ℕ) → fromAnswer s i ray rec room ≡ fromOn s ray rec room cut
   unfolding fromAnswer onCut
-  by-record room = ap (onCut (λ r. R.Refused (Q.File r)) (R.Refused Q.Argument) (fromOn s ray rec room) i) (any-same s cs whole) ∙ rw (lt-ltb i (length cs) some)
+  by-record room = ap (onCut Refused (fromOn s ray rec room) i) (any-same s cs whole) ∙ rw (lt-ltb i (length cs) some)
 
   plainly : (room : ℕ) → rayAnswer s i ray room ≡ rayOn s ray room cut
   unfolding rayAnswer onCut
-  plainly room = ap (onCut (λ r. Y.Refused (F.File r)) (Y.Refused F.Argument) (rayOn s ray room) i) whole ∙ rw (lt-ltb i (length cs) some)
+  plainly room = ap (onCut Refused (rayOn s ray room) i) whole ∙ rw (lt-ltb i (length cs) some)
 
-  on-cut : (room : ℕ) → fromOn s ray rec room cut ≡ asFrom (rayOn s ray room cut)
+  on-cut : (room : ℕ) → fromOn s ray rec room cut ≡ rayOn s ray room cut
   unfolding fromOn rayOn
   on-cut room =
       either (raysIn s cut) ray
       (λ out. rw (le-ltb ray (raysIn s cut) out))
       (λ inside. ap (λ (x : RayRecord). fromOn s ray x room cut) (is inside) ∙ same-on s cut good ray inside e room)
 
-  pub same-answer : (room : ℕ) → fromAnswer s i ray rec room ≡ asFrom (rayAnswer s i ray room)
-  same-answer room = by-record room ∙ on-cut room ∙ sym (ap asFrom (plainly room))
+  pub same-answer : (room : ℕ) → fromAnswer s i ray rec room ≡ rayAnswer s i ray room
+  same-answer room = by-record room ∙ on-cut room ∙ sym (plainly room)
 
   -- the bins that a written answer is about
-  bins-same : (room : ℕ) → rayAnswer s i ray room ≡ Y.Written → rayFrom s cut rec ≡ rayIn s cut ray
+  bins-same : (room : ℕ) → rayAnswer s i ray room ≡ Written → rayFrom s cut rec ≡ rayIn s cut ray
   unfolding rayOn
   bins-same room w =
       either (raysIn s cut) ray
       (λ out.
-      let no : Y.Refused F.Argument ≡ Y.Written = sym (plainly room ∙ rw (le-ltb ray (raysIn s cut) out)) ∙ w in
+      let no : Refused (refuse Argument 0) ≡ Written = sym (plainly room ∙ rw (le-ltb ray (raysIn s cut) out)) ∙ w in
       absurd (let z : _≡_ {A = ℕ} 0 1 = cc no in omega arith))
       (λ inside. ap (rayFrom s cut) (is inside) ∙ made-from s cut good ray inside e)
 
   -- what is left in lent memory, as `f` makes it of a cut and of bins
   held-same : {A : Type 0} (room : ℕ) (f : Cut → List ℕ → A) (old : A)
-      → ifGiven (asFrom (rayAnswer s i ray room)) (f (cutAnyData s i) (rayFrom s (cutAnyData s i) rec)) old ≡ ifWritten (rayAnswer s i ray room) (f (cutIn s i) (rayIn s (cutIn s i) ray)) old
+      → ifWritten (rayAnswer s i ray room) (f (cutAnyData s i) (rayFrom s (cutAnyData s i) rec)) old ≡ ifWritten (rayAnswer s i ray room) (f (cutIn s i) (rayIn s (cutIn s i) ray)) old
   unfolding cutAt
   held-same {A} room f old =
-      ap (λ (v : Verdict). ifGiven (asFrom (rayAnswer s i ray room)) (f (cutAt i v) (rayFrom s (cutAt i v) rec)) old) (any-same s cs whole)
+      ap (λ (v : Verdict). ifWritten (rayAnswer s i ray room) (f (cutAt i v) (rayFrom s (cutAt i v) rec)) old) (any-same s cs whole)
       ∙ go (rayAnswer s i ray room) refl
       ∙ sym (ap (λ (v : Verdict). ifWritten (rayAnswer s i ray room) (f (cutAt i v) (rayIn s (cutAt i v) ray)) old) whole)
     where
-      go : (a : RayAnswer) → rayAnswer s i ray room ≡ a → ifGiven (asFrom a) (f cut (rayFrom s cut rec)) old ≡ ifWritten a (f cut (rayIn s cut ray)) old
-      go Y.Written w = ap (f cut) (bins-same room w)
-      go (Y.Refused q) w = if-same (Y.Refused q) (f cut (rayFrom s cut rec)) old
+      go : (a : RayAnswer) → rayAnswer s i ray room ≡ a → ifWritten a (f cut (rayFrom s cut rec)) old ≡ ifWritten a (f cut (rayIn s cut ray)) old
+      go Written w = ap (f cut) (bins-same room w)
+      go (Refused q) w = refl
 
 -- ---- THE THEOREM
 -- Where building has answered, and `row′` is the row that it left: for every ray, by the record that stands there, and any lent memory
-module _ (s : List ℕ) (i : ℕ) (row row′ : List RayRecord) (built : BuildPromise s i row Y.Written row′) (ray : ℕ) (e : RayRecord) where
+module _ (s : List ℕ) (i : ℕ) (row row′ : List RayRecord) (built : BuildPromise s i row Written row′) (ray : ℕ) (e : RayRecord) where
   abbrev rec : RayRecord
   rec = getD row′ ray e
 
@@ -144,49 +125,49 @@ module _ (s : List ℕ) (i : ℕ) (row row′ : List RayRecord) (built : BuildPr
   standing : Built
   unfolding buildAnswer rowAfter cutAt recordsIn
   standing =
-      by-verdict ownChecks kinds exact s (λ r. Y.Refused (F.File r)) (Y.Refused F.Argument) (buildOn s (length row)) i Y.Written Built
+      by-verdict ownChecks kinds exact s Refused (buildOn s (length row)) i Written Built
       (λ r k x. absurd (let z : _≡_ {A = ℕ} 0 1 = cc x in omega arith))
       (λ cs k le x. absurd (let z : _≡_ {A = ℕ} 0 1 = cc x in omega arith))
       (λ cs k lt x. record { cs = cs; whole = exact .accepted-all s cs k; some = lt; is = found cs (exact .accepted-all s cs k) })
-      (sym (built .answered))
+      (sym (built .answer))
     where
       found : (cs : List Cut) → verdict s ≡ accepted cs → ray < raysIn s (getD cs i noCut) → rec ≡ getD (recordsIn s (getD cs i noCut)) ray e
       found cs w inside =
           let c = getD cs i noCut in
-          ap (λ (l : List RayRecord). getD l ray e) (built .held ∙ ap (λ (v : Verdict). front (recordsIn s (cutAt i v)) row) w)
+          ap (λ (l : List RayRecord). getD l ray e) (built .after ∙ ap (λ (v : Verdict). front (recordsIn s (cutAt i v)) row) w)
           ∙ List·getD-append (recordsIn s c) (drop (length (recordsIn s c)) row) e ray (omega (arith, length-records (binsIn s c) (greatestIn s c) (dataAt s (c .section7)) (raysIn s c) 0))
 
-  pub same-levels : (out out′ out″ : List ℕ) (r : RecordAnswer) (a : RayAnswer) → LevelsFromPromise s i ray rec out r out′ → LevelsPromise s i ray out a out″
-      → (r ≡ asFrom a) × (out′ ≡ out″)
+  pub same-levels : (out out′ out″ : List ℕ) (r : RayAnswer) (a : RayAnswer) → LevelsFromPromise s i ray rec out r out′ → LevelsPromise s i ray out a out″
+      → (r ≡ a) × (out′ ≡ out″)
   unfolding levelsFrom levelsAfter
   same-levels out out′ out″ r a p q =
       let b = standing in
       let room : ℕ = length out in
-      let told : r ≡ asFrom (rayAnswer s i ray room) = p .answer ∙ same-answer s (b .cs) (b .whole) i (b .some) ray rec e (b .is) room in (
-        told ∙ sym (ap asFrom (q .answer)),
+      let told : r ≡ rayAnswer s i ray room = p .answer ∙ same-answer s (b .cs) (b .whole) i (b .some) ray rec e (b .is) room in (
+        told ∙ sym (q .answer),
         p .after
-            ∙ ap (λ (x : RecordAnswer). ifGiven x (front (rayFrom s (cutAnyData s i) rec) out) out) told
+            ∙ ap (λ (x : RayAnswer). ifWritten x (front (rayFrom s (cutAnyData s i) rec) out) out) told
             ∙ held-same s (b .cs) (b .whole) i (b .some) ray rec e (b .is) room (λ c l. front l out) out
             ∙ sym (ap (λ (x : RayAnswer). ifWritten x (front (rayIn s (cutIn s i) ray) out) out) (q .answer))
             ∙ sym (q .after),
       )
 
-  pub same-values : (marks marks′ marks″ : List ℕ) (values values′ values″ : List ℤ) (r : RecordAnswer) (a : RayAnswer)
+  pub same-values : (marks marks′ marks″ : List ℕ) (values values′ values″ : List ℤ) (r : RayAnswer) (a : RayAnswer)
       → ValuesFromPromise s i ray rec marks values r marks′ values′ → ValuesPromise s i ray marks values a marks″ values″
-      → (r ≡ asFrom a) × (marks′ ≡ marks″) × (values′ ≡ values″)
+      → (r ≡ a) × (marks′ ≡ marks″) × (values′ ≡ values″)
   unfolding marksFrom valuesFrom marksAfter valuesAfter
   same-values marks marks′ marks″ values values′ values″ r a p q =
       let b = standing in
       let room : ℕ = min (length marks) (length values) in
-      let told : r ≡ asFrom (rayAnswer s i ray room) = p .answer ∙ same-answer s (b .cs) (b .whole) i (b .some) ray rec e (b .is) room in (
-        told ∙ sym (ap asFrom (q .answer)),
+      let told : r ≡ rayAnswer s i ray room = p .answer ∙ same-answer s (b .cs) (b .whole) i (b .some) ray rec e (b .is) room in (
+        told ∙ sym (q .answer),
         p .marked
-            ∙ ap (λ (x : RecordAnswer). ifGiven x (marksOf (productIn s (cutAnyData s i)) (rayFrom s (cutAnyData s i) rec) marks) marks) told
+            ∙ ap (λ (x : RayAnswer). ifWritten x (marksOf (productIn s (cutAnyData s i)) (rayFrom s (cutAnyData s i) rec) marks) marks) told
             ∙ held-same s (b .cs) (b .whole) i (b .some) ray rec e (b .is) room (λ c l. marksOf (productIn s c) l marks) marks
             ∙ sym (ap (λ (x : RayAnswer). ifWritten x (marksOf (productIn s (cutIn s i)) (rayIn s (cutIn s i) ray) marks) marks) (q .answer))
             ∙ sym (q .marked),
         p .valued
-            ∙ ap (λ (x : RecordAnswer). ifGiven x (valuesOf (productIn s (cutAnyData s i)) (rayFrom s (cutAnyData s i) rec) values) values) told
+            ∙ ap (λ (x : RayAnswer). ifWritten x (valuesOf (productIn s (cutAnyData s i)) (rayFrom s (cutAnyData s i) rec) values) values) told
             ∙ held-same s (b .cs) (b .whole) i (b .some) ray rec e (b .is) room (λ c l. valuesOf (productIn s c) l values) values
             ∙ sym (ap (λ (x : RayAnswer). ifWritten x (valuesOf (productIn s (cutIn s i)) (rayIn s (cutIn s i) ray) values) values) (q .answer))
             ∙ sym (q .valued),

@@ -12,7 +12,7 @@ use Rattle.runs.proofs.Bins.{either}
 use Rattle.index.specs.declared.RayRecord.{RayRecord}
 use Rattle.index.specs.Index.{usable}
 use Rattle.index.proofs.Usable.{usable-outside, usable-above, usable-reached, usable-left}
-use Rattle.indexed.specs.Reasons.{Unfit, outside, above, reached, ends}
+use Rattle.records.specs.Reasons.{Unfit, outside, above, reached, ends}
 
 module _ (v nb : ℕ) (d : List ℕ) (rec : RayRecord) where
   pub unfit-not : Unfit v nb d rec → usable v nb d rec ≡ false

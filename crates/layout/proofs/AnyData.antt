@@ -11,14 +11,16 @@ use lib.ListN.{length, drop, getD}
 use Rattle.rules.specs.Fields.{pointsAt, greatestAt, numberAt}
 use Rattle.runs.specs.Runs.{Exactly}
 use Rattle.sections.specs.Refusal.{numberOf}
-use Rattle.sections.specs.Checks.{Context, Check, check, framed, roomForCut, closes, checks1, checks6, sectionChecks, checksAt}
+use Rattle.sections.specs.Checks.{Check, check, framed, roomForCut, closes, checks1, checks6, sectionChecks, checksAt}
+use Rattle.sections.specs.declared.Context.{Context}
 use Rattle.sections.specs.History.{Seen, contextOf}
 use Rattle.sections.specs.Refused.{AllHold, FirstFails, this, later, Passed, first, then, RefusedBy, size, head, section}
 use Rattle.sections.specs.Verdict.{endOf, accepted, refused, noCut}
 use Rattle.sections.specs.Accepted.{Body, Cuts, none, own, shared, PastZero, sectionAt}
 use Rattle.sections.specs.declared.Cut.{Cut}
-use Rattle.sections.specs.declared.FileRefusal.{FileRefusal}
-use Rattle.sections.specs.declared.FileRefusal.the-variants.{Frame, CutCount, Bins}
+use Rattle.sections.specs.declared.Refusal.{Refusal}
+use Rattle.sections.specs.Refusal.{refuse}
+use Rattle.sections.specs.declared.Why.the-variants.{Frame, CutCount, Data}
 use Rattle.layout.specs.Checks.{checks3, checks4, checks5, checks7, ownChecks, anyDataChecks7, anyDataChecks}
 use Rattle.layout.specs.Verdict.{verdict, anyDataVerdict}
 use Rattle.layout.specs.Accepted.{kinds, Accepted, anyDataKinds, AcceptedAnyData}
@@ -133,15 +135,15 @@ behind P false X O O′ f h = f h
 two-hold : (c d : Check) (O O′ : List Check) → (AllHold O → AllHold O′) → AllHold (c ∷ d ∷ O) → AllHold (c ∷ d ∷ O′)
 two-hold (check q a) (check r b) O O′ f h = (h .0, (h .1 .0, f (h .1 .1)))
 
-two-fail : (r : FileRefusal) (c d : Check) (O O′ : List Check) → (FirstFails r O → FirstFails r O′) → FirstFails r (c ∷ d ∷ O) → FirstFails r (c ∷ d ∷ O′)
+two-fail : (r : Refusal) (c d : Check) (O O′ : List Check) → (FirstFails r O → FirstFails r O′) → FirstFails r (c ∷ d ∷ O) → FirstFails r (c ∷ d ∷ O′)
 two-fail r c d O O′ f (this e) = this e
 two-fail r c d O O′ f (later p (this e)) = later p (this e)
 two-fail r c d O O′ f (later p (later q h)) = later p (later q (f h))
 
-alone : (r q : FileRefusal) (b : Bool) → FirstFails r (check q b ∷ []) → q ≡ r
+alone : (r q : Refusal) (b : Bool) → FirstFails r (check q b ∷ []) → q ≡ r
 alone r q b (this e) = refl
 
-but-third : (r : FileRefusal) (c d : Check) (q : FileRefusal) (b : Bool) → (q ≡ r → ⊥) → FirstFails r (c ∷ d ∷ check q b ∷ []) → FirstFails r (c ∷ d ∷ [])
+but-third : (r : Refusal) (c d : Check) (q : Refusal) (b : Bool) → (q ≡ r → ⊥) → FirstFails r (c ∷ d ∷ check q b ∷ []) → FirstFails r (c ∷ d ∷ [])
 but-third r c d q b n (this e) = this e
 but-third r c d q b n (later p (this e)) = later p (this e)
 but-third r c d q b n (later p (later o f)) = absurd (n (alone r q b f))
@@ -165,10 +167,10 @@ module _ (s : List ℕ) where
   module _ (end : ℕ) where
     module _ (x : Context) (at : ℕ) where
       abbrev frame : Check
-      frame = check (Frame at) (framed s end x at)
+      frame = check (refuse Frame at) (framed s end x at)
 
       abbrev cut : Check
-      cut = check (CutCount at) (roomForCut s x at)
+      cut = check (refuse CutCount at) (roomForCut s x at)
 
       abbrev before : List Check
       before = sectionChecks ownChecks s x at (numberAt s at)
@@ -179,26 +181,26 @@ module _ (s : List ℕ) where
       holds-any : AllHold (checksAt ownChecks s end x at) → AllHold (checksAt anyDataChecks s end x at)
       unfolding checksAt
       holds-any =
-          behind AllHold (eqb at end) (check (Frame at) (closes s x at) ∷ []) (frame ∷ cut ∷ before) (frame ∷ cut ∷ after)
+          behind AllHold (eqb at end) (check (refuse Frame at) (closes s x at) ∷ []) (frame ∷ cut ∷ before) (frame ∷ cut ∷ after)
           (two-hold frame cut before after (section-any AllHold x at (λ h. (h .0, (h .1 .0, tt))) (numberAt s at)))
 
-      fails-any : (r : FileRefusal) → (numberOf r ≡ 8 → ⊥) → FirstFails r (checksAt ownChecks s end x at) → FirstFails r (checksAt anyDataChecks s end x at)
-      unfolding checksAt
+      fails-any : (r : Refusal) → (numberOf (r .why) ≡ 8 → ⊥) → FirstFails r (checksAt ownChecks s end x at) → FirstFails r (checksAt anyDataChecks s end x at)
+      unfolding checksAt refuse
       fails-any r other =
-          behind (FirstFails r) (eqb at end) (check (Frame at) (closes s x at) ∷ []) (frame ∷ cut ∷ before) (frame ∷ cut ∷ after)
+          behind (FirstFails r) (eqb at end) (check (refuse Frame at) (closes s x at) ∷ []) (frame ∷ cut ∷ before) (frame ∷ cut ∷ after)
           (two-fail r frame cut before after
-          (section-any (FirstFails r) x at (but-third r _ _ (Bins at) _ (λ e. other (sym (ap numberOf e)))) (numberAt s at)))
+          (section-any (FirstFails r) x at (but-third r _ _ (refuse Data at) _ (λ e. other (sym (ap (λ (x : Refusal). numberOf (x .why)) e)))) (numberAt s at)))
 
     passed-any : {seen : List Seen} {at : ℕ} → Passed ownChecks s end seen at → Passed anyDataChecks s end seen at
     passed-any first = first
     passed-any (then {seen = seen} {at = at} p n h) = then (passed-any p) n (holds-any (contextOf seen at) at h)
 
-pub refused-any : (s : List ℕ) (r : FileRefusal) → (numberOf r ≡ 8 → ⊥) → RefusedBy ownChecks s r → RefusedBy anyDataChecks s r
+pub refused-any : (s : List ℕ) (r : Refusal) → (numberOf (r .why) ≡ 8 → ⊥) → RefusedBy ownChecks s r → RefusedBy anyDataChecks s r
 refused-any s r other (size h) = size h
 refused-any s r other (head z h) = head z h
 refused-any s r other (section {seen = seen} {at = at} z m p f) = section z m (passed-any s (endOf s) p) (fails-any s (endOf s) (contextOf seen at) at r other f)
 
-pub other-same : (s : List ℕ) (r : FileRefusal) → (numberOf r ≡ 8 → ⊥) → verdict s ≡ refused r → anyDataVerdict s ≡ refused r
+pub other-same : (s : List ℕ) (r : Refusal) → (numberOf (r .why) ≡ 8 → ⊥) → verdict s ≡ refused r → anyDataVerdict s ≡ refused r
 other-same s r other e = any-exact .refused-all s r (refused-any s r other (exact .refused-only s r e))
 
 -- ── and 8 is never given ──
@@ -206,19 +208,19 @@ other-same s r other e = any-exact .refused-all s r (refused-any s r other (exac
 -- none of these checks is 8's
 abbrev NoEight : List Check → Type 0
 NoEight [] = Unit {0}
-NoEight (check q ok ∷ cs) = (eqb (numberOf q) 8 ≡ false) × NoEight cs
+NoEight (check q ok ∷ cs) = (eqb (numberOf (q .why)) 8 ≡ false) × NoEight cs
 
 of-both : (b : Bool) (X O : List Check) → NoEight X → NoEight O → NoEight (cond b X O)
 of-both true X O h k = h
 of-both false X O h k = k
 
-not-eight : (r : FileRefusal) (cs : List Check) → NoEight cs → FirstFails r cs → eqb (numberOf r) 8 ≡ false
+not-eight : (r : Refusal) (cs : List Check) → NoEight cs → FirstFails r cs → eqb (numberOf (r .why)) 8 ≡ false
 not-eight r (check q ok ∷ cs) n (this e) = n .0
 not-eight r (check q ok ∷ cs) n (later p f) = not-eight r cs (n .1) f
 
 module _ (s : List ℕ) (x : Context) (at : ℕ) where
   own-none : (n : ℕ) → NoEight (anyDataChecks s x at n)
-  unfolding ownChecks anyDataChecks
+  unfolding ownChecks anyDataChecks refuse
   own-none n = go (eqb n 7) refl
     where
       four : (n : ℕ) (t : Bool) → t ≡ false → NoEight (cond (eqb n 3) (checks3 s at) (cond (eqb n 4) (checks4 s x at) (cond (eqb n 5) (checks5 s x at) (cond t (checks7 s x at) []))))
@@ -233,12 +235,13 @@ module _ (s : List ℕ) (x : Context) (at : ℕ) where
       go false e = four n (eqb n 7) e
 
   none-at : (end : ℕ) → NoEight (checksAt anyDataChecks s end x at)
-  unfolding checksAt sectionChecks
+  unfolding checksAt sectionChecks refuse
   none-at end =
-      of-both (eqb at end) (check (Frame at) (closes s x at) ∷ []) _ (refl, tt)
+      of-both (eqb at end) (check (refuse Frame at) (closes s x at) ∷ []) _ (refl, tt)
       (refl, (refl, of-both (eqb (numberAt s at) 1) (checks1 s at) _ (refl, (refl, tt)) (of-both (eqb (numberAt s at) 6) (checks6 s at) _ (refl, (refl, tt)) (own-none (numberAt s at)))))
 
-pub never-eight : (s : List ℕ) (r : FileRefusal) → RefusedBy anyDataChecks s r → eqb (numberOf r) 8 ≡ false
+pub never-eight : (s : List ℕ) (r : Refusal) → RefusedBy anyDataChecks s r → eqb (numberOf (r .why)) 8 ≡ false
+unfolding refuse
 never-eight s r (size h) = refl
 never-eight s r (head z h) = refl
 never-eight s r (section {seen = seen} {at = at} z m p f) = not-eight r _ (none-at s (contextOf seen at) at (endOf s)) f

@@ -13,16 +13,13 @@ use Rattle.rules.proofs.Bounds.{bins-bound, rays-bound, greatest-bound}
 use Rattle.runs.specs.Run.{gives}
 use Rattle.values.specs.Published.{levelCount}
 use Rattle.sections.specs.Parts.{binsIn, raysIn}
-use Rattle.sections.specs.Verdict.{endOf, noCut, answerFor}
+use Rattle.sections.specs.Verdict.{endOf, noCut}
 use Rattle.sections.specs.Accepted.{Body, sectionAt}
 use Rattle.sections.specs.declared.Cut.{Cut}
-use Rattle.sections.specs.declared.Found.{Found}
-use Rattle.sections.specs.declared.Walked.the-variants as W
-use Rattle.sections.proofs.Each.{checked, each-cut, each-found}
+use Rattle.sections.proofs.Each.{checked, each-cut}
 use Rattle.sections.proofs.There.{AllThere}
 use Rattle.layout.specs.Checks.{ownChecks, anyDataChecks}
 use Rattle.layout.specs.Parts.{dataAt, productIn, greatestIn}
-use Rattle.layout.specs.Verdict.{verdict, anyDataVerdict}
 use Rattle.layout.specs.Accepted.{Section3, kinds, Accepted, anyDataKinds, AcceptedAnyData}
 use Rattle.layout.specs.Good.{AnyDataCut, GoodCut}
 use Rattle.layout.proofs.Own.{says, any-says}
@@ -66,13 +63,6 @@ good-body s first s3 at c next h three b =
 
 pub good-accepted : (s : List ℕ) (cs : List Cut) → Accepted s cs → (i : ℕ) → i < length cs → GoodCut s (getD cs i noCut)
 good-accepted s = each-cut kinds s (GoodCut s) (good-body s)
-
-pub good-cut : (s : List ℕ) (i : ℕ) (f : Found) → answerFor i (verdict s) ≡ W.Whole f → i < f .cuts → GoodCut s (f .cut)
-good-cut s = each-found kinds s (GoodCut s) (good-body s) ownChecks says
-
--- the same but for its data
-pub any-cut : (s : List ℕ) (i : ℕ) (f : Found) → answerFor i (anyDataVerdict s) ≡ W.Whole f → i < f .cuts → AnyDataCut s (f .cut)
-any-cut s = each-found anyDataKinds s (AnyDataCut s) (any-body s) anyDataChecks any-says
 
 pub any-cut-of : (s : List ℕ) (cs : List Cut) → AcceptedAnyData s cs → (i : ℕ) → i < length cs → AnyDataCut s (getD cs i noCut)
 any-cut-of s = each-cut anyDataKinds s (AnyDataCut s) (any-body s)

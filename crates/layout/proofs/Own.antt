@@ -18,7 +18,8 @@ use Rattle.values.specs.Table.{tableRight}
 use Rattle.values.specs.Published.{levelCount}
 use Rattle.values.proofs.Listed.{count-le}
 use Rattle.values.proofs.Octets.{table-right, right-table}
-use Rattle.sections.specs.Checks.{Context}
+use Rattle.sections.specs.Refusal.{refuse}
+use Rattle.sections.specs.declared.Context.{Context}
 use Rattle.sections.specs.Refused.{AllHold}
 use Rattle.sections.specs.Accepted.{sectionAt}
 use Rattle.sections.proofs.There.{AllThere, Known}
@@ -124,7 +125,7 @@ few-points s x at h = points-bound s at 50120 scanRules (h .1 .0)
 
 -- and each check names the section's place
 pub own-at : OwnAt ownChecks
-unfolding ownChecks
+unfolding ownChecks refuse
 own-at s x at n =
     either (eqb n 3) at _ _ (refl, (refl, (refl, tt)))
     (either (eqb n 4) at _ _ (refl, (refl, tt))
@@ -168,5 +169,5 @@ unfolding anyDataChecks
 any-few-points = few-points
 
 pub any-own-at : OwnAt anyDataChecks
-unfolding anyDataChecks
+unfolding anyDataChecks refuse
 any-own-at s x at n = either (eqb n 7) at _ _ (refl, (refl, tt)) (own-at s x at n)

@@ -10,39 +10,41 @@ use Rattle.rules.specs.Fields.{lengthAt, raysAt, pointsAt, parameterAt, siteAt,
 use Rattle.runs.specs.Run.{gives}
 use Rattle.values.specs.Published.{levelCount}
 use Rattle.values.specs.Table.{tableRight}
-use Rattle.sections.specs.Checks.{Context, Check, check, Own}
-use Rattle.sections.specs.declared.FileRefusal.the-variants.{Length, Field, Points, Table, Bins, BaseOfRuns}
+use Rattle.sections.specs.Checks.{Check, check, Own}
+use Rattle.sections.specs.declared.Context.{Context}
+use Rattle.sections.specs.Refusal.{refuse}
+use Rattle.sections.specs.declared.Why.the-variants.{SectionLength, Field, Points, Table, Data, «V»}
 use Rattle.layout.specs.Parts.{productOf, tableAt, dataAt}
 
 abbrev pub checks3 : List ℕ → ℕ → List Check
 checks3 s at =
-    check (Length at) (eqb (lengthAt s at) 41)
-    ∷ check (Field at) (meetsAll s at rules3)
-    ∷ check (Points at) (eqb (field s at 7 4) (pointsAt s at))
+    check (refuse SectionLength at) (eqb (lengthAt s at) 41)
+    ∷ check (refuse Field at) (meetsAll s at rules3)
+    ∷ check (refuse Points at) (eqb (field s at 7 4) (pointsAt s at))
     ∷ []
 
 abbrev pub checks4 : List ℕ → Context → ℕ → List Check
 checks4 s x at =
-    check (Length at) (eqb (lengthAt s at) (60 + 4 * raysAt s (x .section3)))
-    ∷ check (Field at) (meetsAll s at (rules4 (parameterAt s (x .first)) (siteAt s (x .first))))
+    check (refuse SectionLength at) (eqb (lengthAt s at) (60 + 4 * raysAt s (x .section3)))
+    ∷ check (refuse Field at) (meetsAll s at (rules4 (parameterAt s (x .first)) (siteAt s (x .first))))
     ∷ []
 
 -- "17 + 2M with M as read"; under 17 no M makes the length right
 abbrev pub rest5 : List ℕ → Context → ℕ → List Check
 rest5 s x at =
-    check (Field at) (meetsAll s at (rules5 (levelCount (productOf (parameterAt s (x .section4))))))
-    ∷ check (Points at) (eqb (field s at 6 4) (pointsAt s (x .section3)))
-    ∷ check (Table at) (tableRight (tableAt s at) (productOf (parameterAt s (x .section4))))
+    check (refuse Field at) (meetsAll s at (rules5 (levelCount (productOf (parameterAt s (x .section4))))))
+    ∷ check (refuse Points at) (eqb (field s at 6 4) (pointsAt s (x .section3)))
+    ∷ check (refuse Table at) (tableRight (tableAt s at) (productOf (parameterAt s (x .section4))))
     ∷ []
 
 abbrev pub checks5 : List ℕ → Context → ℕ → List Check
-checks5 s x at = check (Length at) (eqb (lengthAt s at) (17 + 2 * countAt s at)) ∷ rest5 s x at
+checks5 s x at = check (refuse SectionLength at) (eqb (lengthAt s at) (17 + 2 * countAt s at)) ∷ rest5 s x at
 
 abbrev pub checks7 : List ℕ → Context → ℕ → List Check
 checks7 s x at =
-    check (Length at) (leb 6 (lengthAt s at))
-    ∷ check (BaseOfRuns at) (leb (greatestAt s (x .section5)) 253)
-    ∷ check (Bins at) (gives (greatestAt s (x .section5)) (pointsAt s (x .section3)) (dataAt s at))
+    check (refuse SectionLength at) (leb 6 (lengthAt s at))
+    ∷ check (refuse «V» at) (leb (greatestAt s (x .section5)) 253)
+    ∷ check (refuse Data at) (gives (greatestAt s (x .section5)) (pointsAt s (x .section3)) (dataAt s at))
     ∷ []
 
 unfoldable pub ownChecks : Own

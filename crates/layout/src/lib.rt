@@ -4,10 +4,10 @@
 // What is to be believed stands in specs/Accepted.antt, by the octets of each section, and in specs/Checks.antt, by places and in the order of checks,
 // with the rule lists of crate `rules`; proofs/Exact.antt has the theorems that `verdict` accepts and refuses exactly these files.
 use runs::Scan;
+use sections::Context;
 use sections::Cut;
-use sections::FileRefusal;
 use sections::Judged;
-use sections::State;
+use sections::Why;
 use values::Product;
 ghost use mathlib.Core.Path.{_≡_};
 ghost use Prim.Native.Nat.{_+_, _≤_};
@@ -16,7 +16,6 @@ ghost use Rattle.rules.specs.Fields.{lengthAt, pointsAt};
 ghost use Rattle.runs.specs.Run.{gives};
 ghost use Rattle.values.specs.Table.{tableRight};
 ghost use Rattle.sections.specs.Verdict.{firstFault};
-ghost use Rattle.sections.specs.Places.{contextIn};
 ghost use Rattle.layout.specs.Parts.{productOf, tableAt, dataAt, productIn};
 ghost use Rattle.layout.specs.Checks.{checks3, checks4, checks5, rest5, checks7, ownChecks, anyDataChecks7};
 
@@ -69,126 +68,125 @@ fn data_at(s: &[u8], at: usize, v: u8, bins: usize) -> bool
 
 // Each kind of section.
 
-fn judge3(s: &[u8], st: State) -> Judged
-    ensures { λ r. ⌜ r ≡ firstFault (checks3 (now (s .entry)) (st .at)) ⌝ }
+fn judge3(s: &[u8], at: usize) -> Judged
+    ensures { λ r. ⌜ r ≡ firstFault (checks3 (now (s .entry)) at) ⌝ }
 {
-    let at = st.at;
     let len = rules::field32(s, at, 1);
     let said = rules::wide(rules::field32(s, at, 7));
     let due = rules::points_at(s, at);
-    sections::unless(
+    sections::check(
         len == 41,
-        FileRefusal::Length(at),
-        sections::unless(
+        Why::SectionLength,
+        at,
+        sections::check(
             rules::fields3(s, at),
-            FileRefusal::Field(at),
-            sections::unless(said == due, FileRefusal::Points(at), sections::fine()),
+            Why::Field,
+            at,
+            sections::check(said == due, Why::Points, at, sections::accepted()),
         ),
     )
 }
 
-fn judge4(s: &[u8], st: State) -> Judged
-    ensures { λ r. ⌜ r ≡ firstFault (checks4 (now (s .entry)) (contextIn st) (st .at)) ⌝ }
+fn judge4(s: &[u8], x: Context, at: usize) -> Judged
+    ensures { λ r. ⌜ r ≡ firstFault (checks4 (now (s .entry)) x at) ⌝ }
 {
-    let at = st.at;
     let len = rules::wide(rules::field32(s, at, 1));
-    let due = 60 + 4 * rules::wide(rules::field32(s, st.section3, 19));
-    let first = sections::first_in(st);
-    let parameter = rules::field8(s, first, 11);
-    let site = rules::field16(s, first, 29);
-    sections::unless(
+    let due = 60 + 4 * rules::wide(rules::field32(s, x.section3, 19));
+    let parameter = rules::field8(s, x.first, 11);
+    let site = rules::field16(s, x.first, 29);
+    sections::check(
         len == due,
-        FileRefusal::Length(at),
-        sections::unless(
+        Why::SectionLength,
+        at,
+        sections::check(
             rules::fields4(s, at, parameter, site),
-            FileRefusal::Field(at),
-            sections::fine(),
+            Why::Field,
+            at,
+            sections::accepted(),
         ),
     )
 }
 
 // The checks of section 5 past its length.
-fn judge5_fields(s: &[u8], st: State) -> Judged
-    requires { ⌜ (17 ≤ lengthAt (now s) (st .at)) × (st .at + lengthAt (now s) (st .at) ≤ length (now s)) ⌝ }
-    ensures { λ r. ⌜ r ≡ firstFault (rest5 (now (s .entry)) (contextIn st) (st .at)) ⌝ }
+fn judge5_fields(s: &[u8], x: Context, at: usize) -> Judged
+    requires { ⌜ (17 ≤ lengthAt (now s) at) × (at + lengthAt (now s) at ≤ length (now s)) ⌝ }
+    ensures { λ r. ⌜ r ≡ firstFault (rest5 (now (s .entry)) x at) ⌝ }
 {
-    let at = st.at;
-    let product = product_of(rules::field8(s, st.section4, 11));
+    let product = product_of(rules::field8(s, x.section4, 11));
     let said = rules::wide(rules::field32(s, at, 6));
-    let points = rules::points_at(s, st.section3);
+    let points = rules::points_at(s, x.section3);
     let m = values::level_count(product) as u16;
     let table = table_at(s, at, product);
-    sections::unless(
+    sections::check(
         rules::fields5(s, at, m),
-        FileRefusal::Field(at),
-        sections::unless(
+        Why::Field,
+        at,
+        sections::check(
             said == points,
-            FileRefusal::Points(at),
-            sections::unless(table, FileRefusal::Table(at), sections::fine()),
+            Why::Points,
+            at,
+            sections::check(table, Why::Table, at, sections::accepted()),
         ),
     )
 }
 
-fn judge5(s: &[u8], st: State) -> Judged
-    requires { ⌜ st .at + lengthAt (now s) (st .at) ≤ length (now s) ⌝ }
-    ensures { λ r. ⌜ r ≡ firstFault (checks5 (now (s .entry)) (contextIn st) (st .at)) ⌝ }
+fn judge5(s: &[u8], x: Context, at: usize) -> Judged
+    requires { ⌜ at + lengthAt (now s) at ≤ length (now s) ⌝ }
+    ensures { λ r. ⌜ r ≡ firstFault (checks5 (now (s .entry)) x at) ⌝ }
 {
-    let at = st.at;
     let len = rules::field32(s, at, 1);
     let due = 17 + 2 * wide16(rules::field16(s, at, 15));
     if len == due {
-        judge5_fields(s, st)
+        judge5_fields(s, x, at)
     } else {
-        Judged::Wrong(FileRefusal::Length(at))
+        sections::refused(Why::SectionLength, at)
     }
 }
 
-pub fn judge7(s: &[u8], st: State) -> Judged
-    requires { ⌜ st .at + lengthAt (now s) (st .at) ≤ length (now s) ⌝ }
-    requires { ⌜ pointsAt (now s) (st .section3) ≤ 2097152 ⌝ }
-    ensures { λ r. ⌜ r ≡ firstFault (checks7 (now (s .entry)) (contextIn st) (st .at)) ⌝ }
+pub fn judge7(s: &[u8], x: Context, at: usize) -> Judged
+    requires { ⌜ at + lengthAt (now s) at ≤ length (now s) ⌝ }
+    requires { ⌜ pointsAt (now s) (x .section3) ≤ 2097152 ⌝ }
+    ensures { λ r. ⌜ r ≡ firstFault (checks7 (now (s .entry)) x at) ⌝ }
 {
-    let at = st.at;
     let len = rules::field32(s, at, 1);
     if len < 6 {
-        return Judged::Wrong(FileRefusal::Length(at));
+        return sections::refused(Why::SectionLength, at);
     }
-    let v = rules::field16(s, st.section5, 13);
+    let v = rules::field16(s, x.section5, 13);
     if 253 < v {
-        return Judged::Wrong(FileRefusal::BaseOfRuns(at));
+        return sections::refused(Why::V, at);
     }
-    let bins = rules::points_at(s, st.section3) as usize;
+    let bins = rules::points_at(s, x.section3) as usize;
     if data_at(s, at, v as u8, bins) {
-        return Judged::Fine;
+        return Judged::Accepted;
     }
-    Judged::Wrong(FileRefusal::Bins(at))
+    sections::refused(Why::Data, at)
 }
 
 // The same but for the data.
-pub fn judge_any7(s: &[u8], st: State) -> Judged
-    ensures { λ r. ⌜ r ≡ firstFault (anyDataChecks7 (now (s .entry)) (contextIn st) (st .at)) ⌝ }
+pub fn judge_any7(s: &[u8], x: Context, at: usize) -> Judged
+    ensures { λ r. ⌜ r ≡ firstFault (anyDataChecks7 (now (s .entry)) x at) ⌝ }
 {
-    let at = st.at;
     let len = rules::field32(s, at, 1);
-    let v = rules::field16(s, st.section5, 13);
-    let low = sections::unless(v <= 253, FileRefusal::BaseOfRuns(at), sections::fine());
-    sections::unless(6 <= len, FileRefusal::Length(at), low)
+    let v = rules::field16(s, x.section5, 13);
+    let low = sections::check(v <= 253, Why::V, at, sections::accepted());
+    sections::check(6 <= len, Why::SectionLength, at, low)
 }
 
 // The checks of a section of the format's own other than a 7, which has its functions above.
-pub fn judge(s: &[u8], st: State, n: u8) -> Judged
-    requires { ⌜ st .at + lengthAt (now s) (st .at) ≤ length (now s) ⌝ }
+pub fn judge(s: &[u8], x: Context, at: usize, n: u8) -> Judged
+    requires { ⌜ at + lengthAt (now s) at ≤ length (now s) ⌝ }
     requires { ⌜ (n ≡ 7 → ⊥) ⌝ }
-    ensures { λ r. ⌜ r ≡ firstFault (ownChecks (now (s .entry)) (contextIn st) (st .at) n) ⌝ }
+    ensures { λ r. ⌜ r ≡ firstFault (ownChecks (now (s .entry)) x at n) ⌝ }
 {
     if n == 3 {
-        return judge3(s, st);
+        return judge3(s, at);
     }
     if n == 4 {
-        return judge4(s, st);
+        return judge4(s, x, at);
     }
     if n == 5 {
-        return judge5(s, st);
+        return judge5(s, x, at);
     }
-    Judged::Fine
+    Judged::Accepted
 }

@@ -5,8 +5,8 @@ use mathlib.Core.List.{List, [], _∷_, _++_, append-nil}
 use native.Mathlib.Omega.{arith}
 use lib.ListN.{length, take, drop, length-append, length-take, length-drop}
 use lib.Seq.{take-take}
-use Rattle.sections.specs.Refusal.{numberOf, placeOf}
-use Rattle.sections.specs.declared.FileRefusal.{FileRefusal}
+use Rattle.sections.specs.Refusal.{numberOf}
+use Rattle.sections.specs.declared.Refusal.{Refusal}
 use Rattle.stretches.specs.Stretch.{Entry}
 use Rattle.stretches.specs.declared.Listing.{Listing}
 use Rattle.lines.specs.Put.{Put}
@@ -45,7 +45,7 @@ wrote s ws d e piece p at r put comes sound some = record {
 }
 
 -- ---- a line alone
-pub goes-refused : (s ws d e : List ℕ) (p : Progress) (at to n k : ℕ) (r : FileRefusal) → p ≡ Refused r → n ≡ numberOf r → k ≡ placeOf r
+pub goes-refused : (s ws d e : List ℕ) (p : Progress) (at to n k : ℕ) (r : Refusal) → p ≡ Refused r → n ≡ numberOf (r .why) → k ≡ r .place
     → Put d at (refusedLine n k) e to → Goes s ws d p at e (record { at = to; next = Finished })
 unfolding textFrom Sound
 goes-refused s ws d e p at to n k r h a b put =

@@ -10,7 +10,7 @@ use Rattle.values.specs.declared.Product.{Product}
 use Rattle.values.specs.declared.Product.the-variants.{Reflectivity, Velocity}
 use Rattle.sections.specs.Parts.{binsIn, raysIn}
 use Rattle.layout.specs.Parts.{productIn}
-use Rattle.sections.specs.Refusal.{numberOf, placeOf}
+use Rattle.sections.specs.Refusal.{numberOf}
 use Rattle.sections.specs.Verdict.{Verdict, accepted, refused}
 use Rattle.layout.specs.Verdict.{verdict}
 use Rattle.sections.specs.declared.Cut.{Cut}
@@ -44,7 +44,7 @@ entryCount s (c ∷ cs) = length (houseList s c 0 0) + entryCount s cs
 
 unfoldable pub verdictText : List ℕ → Verdict → List ℕ
 verdictText s (accepted cs) = cutLines s 0 cs ++ endLine (entryCount s cs)
-verdictText s (refused r) = refusedLine (numberOf r) (placeOf r)
+verdictText s (refused r) = refusedLine (numberOf (r .why)) (r .place)
 
 -- the whole text
 unfoldable pub textOf : List ℕ → List ℕ

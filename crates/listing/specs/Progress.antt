@@ -5,7 +5,7 @@ use mathlib.Core.Bool.{Bool, true, false}
 use mathlib.Core.List.{List, [], _++_}
 use lib.ListN.{length, take, drop, getD}
 use Rattle.sections.specs.Parts.{binsIn, raysIn}
-use Rattle.sections.specs.Refusal.{numberOf, placeOf}
+use Rattle.sections.specs.Refusal.{numberOf}
 use Rattle.sections.specs.Verdict.{Verdict, accepted, refused, noCut}
 use Rattle.layout.specs.Verdict.{verdict}
 use Rattle.sections.specs.declared.Cut.{Cut}
@@ -53,7 +53,7 @@ turnText s t k = entryLines (drop k (listOf s t)) ++ textAt s (suc (t .number)) 
 
 -- the text still to come
 unfoldable pub textFrom : List ℕ → Progress → List ℕ
-textFrom s (Refused r) = refusedLine (numberOf r) (placeOf r)
+textFrom s (Refused r) = refusedLine (numberOf (r .why)) (r .place)
 textFrom s (Head t) = headOf s (t .number) (t .cut) ++ turnText s t 0
 textFrom s (Fill t) = turnText s t 0
 textFrom s (Show t l k) = turnText s t k

@@ -3,10 +3,11 @@
 // pages joined are the text). The file's checks are made once. The words of a listing are kept between pages, so that a cut is listed in few
 // portions, however small the page. Below it stand `walks`, `cuts`, `stretches` and `lines`; above it the programs.
 use sections::Cut;
-use sections::FileRefusal;
-use sections::Walked;
+use sections::Refusal;
+use sections::Why;
 use stretches::Listing;
 use values::Product;
+use walks::Walked;
 ghost use mathlib.Core.Path.{_≡_};
 ghost use mathlib.Core.Bool.{false};
 ghost use mathlib.Core.List.{List};
@@ -36,7 +37,7 @@ pub struct Turn {
 // Where the writing stands.
 pub enum Progress {
     // the line of a refusal is all there is
-    Refused(FileRefusal),
+    Refused(Refusal),
     // the first line of a cut
     Head(Turn),
     // entries, which are to be listed into the words
@@ -68,10 +69,11 @@ fn product_number(p: Product) -> usize
     }
 }
 
-fn number_of(refusal: FileRefusal) -> usize
-    ensures { λ r. ⌜ r ≡ numberOf refusal ⌝ }
+fn number_of(refusal: Refusal) -> usize
+    ensures { λ r. ⌜ r ≡ numberOf (refusal .why) ⌝ }
 {
-    sections::number_of(refusal) as usize
+    let why = refusal.why;
+    sections::number_of(why) as usize
 }
 
 fn least(a: usize, b: usize) -> usize
@@ -100,14 +102,17 @@ pub fn start(file: &[u8]) -> Progress
     ensures { λ r. ⌜ ((ws : List ℕ) → Sound (now (file .entry)) ws r) ⌝ }
 {
     if 65536 < file.len() {
-        return Progress::Refused(FileRefusal::FileSize);
+        return Progress::Refused(Refusal {
+            why: Why::FileSize,
+            place: 0,
+        });
     }
     match walks::walk(file, 0) {
-        Walked::Whole(f) => {
+        Walked::Accepted(f) => {
             let cut = f.cut;
             Progress::Head(cut_begun(0, f.cuts, cut, 0))
         }
-        Walked::Rejected(refusal) => Progress::Refused(refusal),
+        Walked::Refused(refusal) => Progress::Refused(refusal),
     }
 }
 
@@ -211,7 +216,7 @@ fn step(file: &[u8], p: Progress, words: &mut [u32], text: &mut [u8], at: usize)
 {
     match p {
         Progress::Refused(refusal) => {
-            let to = lines::put_refused(text, at, number_of(refusal), sections::place_of(refusal));
+            let to = lines::put_refused(text, at, number_of(refusal), refusal.place);
             Stepped {
                 at: to,
                 next: Progress::Finished,

@@ -14,7 +14,7 @@ use Rattle.values.specs.Ray.{marksOf, valuesOf}
 use Rattle.sections.specs.Verdict.{noCut}
 use Rattle.sections.specs.Parts.{binsIn, raysIn, gridAt}
 use Rattle.sections.specs.declared.Cut.{Cut}
-use Rattle.sections.specs.declared.FileRefusal.{FileRefusal}
+use Rattle.sections.specs.declared.Refusal.{Refusal}
 use Rattle.layout.specs.Parts.{productIn, levelsIn, levelIn}
 use Rattle.layout.specs.Checks.{ownChecks}
 use Rattle.layout.specs.Verdict.{verdict}
@@ -23,19 +23,19 @@ use Rattle.layout.proofs.Exact.{exact}
 use Rattle.stretches.specs.Stretch.{perEntry}
 use Rattle.stretches.specs.Call.{rightT, rightPoint, answerOf, outOf}
 use Rattle.cuts.specs.Bins.{binsFrom, rayIn, stretchesIn}
-use Rattle.polar.specs.Cuts.{onCut, cutAt, cutIn}
+use Rattle.calls.specs.Cuts.{onCut, cutAt, cutIn, ifWritten}
 use Rattle.polar.specs.Opening.{elevationOf, infoOf, cutAnswer}
-use Rattle.polar.specs.Rays.{rayOn, rayAnswer, ifWritten, levelsAfter, marksAfter, valuesAfter, binOf, binOn, binAnswer}
+use Rattle.polar.specs.Rays.{rayOn, rayAnswer, levelsAfter, marksAfter, valuesAfter, binOf, binOn, binAnswer}
 use Rattle.polar.specs.Stretching.{stretchesOn, stretchAnswer, ifListed, wordsAfter}
 use Rattle.polar.specs.declared.CutAnswer.the-variants as C
-use Rattle.polar.specs.declared.RayAnswer.{RayAnswer}
-use Rattle.polar.specs.declared.RayAnswer.the-variants as R
-use Rattle.polar.specs.declared.BinAnswer.the-variants as B
+use Rattle.calls.specs.declared.RayAnswer.{RayAnswer}
+use Rattle.calls.specs.declared.RayAnswer.the-variants as R
+use Rattle.calls.specs.declared.BinAnswer.the-variants as B
 use Rattle.polar.specs.declared.StretchAnswer.{StretchAnswer}
 use Rattle.polar.specs.declared.StretchAnswer.the-variants as S
-use Rattle.polar.specs.declared.FillRefusal.the-variants as F
-use Rattle.polar.specs.declared.AskRefusal.the-variants as A
-use Rattle.polar.proofs.ByVerdict.{cut-accepted}
+use Rattle.sections.specs.Refusal.{refuse}
+use Rattle.sections.specs.declared.Why.the-variants.{Argument, Room}
+use Rattle.calls.proofs.ByVerdict.{cut-accepted}
 use Rattle.files.specs.File.{Parts, partsAt}
 use Rattle.moved.specs.Told.{productBy, levelsBy, stretchesBy}
 use Rattle.moved.proofs.Told.{Told, told-at}
@@ -83,29 +83,29 @@ module _ (s t : List ℕ) (c d : Cut) (p q : Parts) (m : Told s c p) (n : Told t
 
   ray-on : (ray room : ℕ) → rayOn s ray room c ≡ rayOn t ray room d
   unfolding rayOn
-  ray-on ray room = (λ i. cond (ltb ray (rays i)) (cond (ltb room (bins i)) (R.Refused F.Room) R.Written) (R.Refused F.Argument))
+  ray-on ray room = (λ i. cond (ltb ray (rays i)) (cond (ltb room (bins i)) (R.Refused (refuse Room 0)) R.Written) (R.Refused (refuse Argument 0)))
 
   bin-on : (ray bin : ℕ) → binOn s ray bin c ≡ binOn t ray bin d
   unfolding binOn levelIn
   bin-on ray bin =
       (λ i.
-      cond (ltb ray (rays i) && ltb bin (bins i)) (binOf (readingOf (product i) (getD (levels i) (ray * bins i + bin) 0))) (B.Refused A.Argument))
+      cond (ltb ray (rays i) && ltb bin (bins i)) (binOf (readingOf (product i) (getD (levels i) (ray * bins i + bin) 0))) (B.Refused (refuse Argument 0)))
 
   stretches-on : (x : ℤ) (ray bin room : ℕ) → stretchesOn s x ray bin room c ≡ stretchesOn t x ray bin room d
   unfolding stretchesOn
   stretches-on x ray bin room =
       (λ i.
       cond (rightT x && rightPoint (bins i) (rays i) ray bin)
-      (cond (ltb room perEntry) (S.Refused F.Room) (S.Listed (answerOf (rays i) room (stretches x ray bin i))))
-      (S.Refused F.Argument))
+      (cond (ltb room perEntry) (S.Refused (refuse Room 0)) (S.Listed (answerOf (rays i) room (stretches x ray bin i))))
+      (S.Refused (refuse Argument 0)))
 
 module _ (s : List ℕ) (cs : List Cut) (a : Accepted s cs) (i : ℕ) (lt : i < length cs) where
   cut-is : cutIn s i ≡ getD cs i noCut
   unfolding cutAt
   cut-is = ap (cutAt i) (exact .accepted-all s cs a)
 
-  on-cut : {X : Type 0} (bad : FileRefusal → X) (no-cut : X) (some : Cut → X) → onCut bad no-cut some i (verdict s) ≡ some (getD cs i noCut)
-  on-cut bad no-cut some = cut-accepted ownChecks kinds exact s bad no-cut some i cs a lt
+  on-cut : {X : Type 0} (bad : Refusal → X) (some : Cut → X) → onCut bad some i (verdict s) ≡ some (getD cs i noCut)
+  on-cut bad some = cut-accepted ownChecks kinds exact s bad some i cs a lt
 
 pub same-calls : (s t : List ℕ) (cs ds : List Cut) → Accepted s cs → Accepted t ds → (i j : ℕ) → i < length cs → j < length ds
     → partsAt s (getD cs i noCut) ≡ partsAt t (getD ds j noCut) → SameCalls s i t j
@@ -125,12 +125,12 @@ same-calls s t cs ds a b i j lt lu e =
     let list-of : (v : ℤ) (ray bin : ℕ) → stretchesIn s (cutIn s i) v ray bin ≡ stretchesIn t (cutIn t j) v ray bin =
     λ v ray bin. ap (λ (z : Cut). stretchesIn s z v ray bin) x ∙ stretches s t c d p q m n e v ray bin ∙ sym (ap (λ (z : Cut). stretchesIn t z v ray bin) y) in
     record {
-      cut = on-cut s cs a i lt _ _ _ ∙ ap C.Cut (info s t c d p q m n e) ∙ sym (on-cut t ds b j lu _ _ _);
-      rays = λ ray room. on-cut s cs a i lt _ _ _ ∙ ray-on s t c d p q m n e ray room ∙ sym (on-cut t ds b j lu _ _ _);
+      cut = on-cut s cs a i lt _ _ ∙ ap C.Cut (info s t c d p q m n e) ∙ sym (on-cut t ds b j lu _ _);
+      rays = λ ray room. on-cut s cs a i lt _ _ ∙ ray-on s t c d p q m n e ray room ∙ sym (on-cut t ds b j lu _ _);
       levels = λ r ray out. ap (λ (l : List ℕ). ifWritten r (front l out) out) (ray-of ray);
       marks = λ r ray out. (λ k. ifWritten r (marksOf (product-of k) (ray-of ray k) out) out);
       values = λ r ray out. (λ k. ifWritten r (valuesOf (product-of k) (ray-of ray k) out) out);
-      bin = λ ray bin. on-cut s cs a i lt _ _ _ ∙ bin-on s t c d p q m n e ray bin ∙ sym (on-cut t ds b j lu _ _ _);
-      stretches = λ v ray bin room. on-cut s cs a i lt _ _ _ ∙ stretches-on s t c d p q m n e v ray bin room ∙ sym (on-cut t ds b j lu _ _ _);
+      bin = λ ray bin. on-cut s cs a i lt _ _ ∙ bin-on s t c d p q m n e ray bin ∙ sym (on-cut t ds b j lu _ _);
+      stretches = λ v ray bin room. on-cut s cs a i lt _ _ ∙ stretches-on s t c d p q m n e v ray bin room ∙ sym (on-cut t ds b j lu _ _);
       words = λ r v ray bin out. ap (λ l. ifListed r (outOf out l) out) (list-of v ray bin);
     }

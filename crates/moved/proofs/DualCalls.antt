@@ -14,18 +14,19 @@ use Rattle.sections.specs.Accepted.{sectionAt}
 use Rattle.sections.specs.Verdict.{noCut}
 use Rattle.sections.specs.Parts.{binsIn, raysIn, gridAt}
 use Rattle.sections.specs.declared.Cut.{Cut}
-use Rattle.sections.specs.declared.FileRefusal.{FileRefusal}
+use Rattle.sections.specs.declared.Refusal.{Refusal}
 use Rattle.duallayout.specs.Fields.{siteAt}
 use Rattle.duallayout.specs.Checks.{ownChecks}
 use Rattle.duallayout.specs.Verdict.{verdict}
 use Rattle.duallayout.specs.Accepted.{kinds, Accepted}
 use Rattle.duallayout.proofs.Exact.{exact}
 use Rattle.duallayout.proofs.First.{as-first}
-use Rattle.polar.specs.Cuts.{onCut}
-use Rattle.polar.specs.declared.AskRefusal.the-variants.{Argument}
-use Rattle.polar.specs.declared.BinAnswer.{BinAnswer}
-use Rattle.polar.specs.declared.BinAnswer.the-variants as B
-use Rattle.polar.proofs.ByVerdict.{cut-accepted, file-accepted}
+use Rattle.calls.specs.Cuts.{onCut}
+use Rattle.sections.specs.Refusal.{refuse}
+use Rattle.sections.specs.declared.Why.the-variants.{Argument}
+use Rattle.calls.specs.declared.BinAnswer.{BinAnswer}
+use Rattle.calls.specs.declared.BinAnswer.the-variants as B
+use Rattle.calls.proofs.ByVerdict.{cut-accepted, file-accepted}
 use Rattle.dualpol.specs.Answers.{summaryOf, openAnswer, cutAnswer, binOf, binOn, binAnswer}
 use Rattle.dualpol.specs.declared.DualOpened.the-variants as O
 use Rattle.dualpol.specs.declared.DualCut.the-variants as C
@@ -45,7 +46,7 @@ guarded false x y z f = refl
 
 -- bin value of a cut, by its octets
 binBy : Parts → ℕ → ℕ → BinAnswer
-binBy p ray bin = cond (ltb ray (raysAt (p .three) 0) && ltb bin (binsAt (p .three) 0)) (binOf (toldBy p ray bin)) (B.Refused Argument)
+binBy p ray bin = cond (ltb ray (raysAt (p .three) 0) && ltb bin (binsAt (p .three) 0)) (binOf (toldBy p ray bin)) (B.Refused (refuse Argument 0))
 
 bin-by : (s : List ℕ) (c : Cut) (p : Parts) → DualTold s c p → (ray bin : ℕ) → binOn s ray bin c ≡ binBy p ray bin
 unfolding binOn binBy
@@ -54,11 +55,11 @@ bin-by s c p m ray bin =
     (λ e.
     let in-range = and-true-both (ltb ray (raysIn s c)) (ltb bin (binsIn s c)) e in
     ap binOf (m .tells ray bin (ltb-true _ _ (in-range .0)) (ltb-true _ _ (in-range .1))))
-    ∙ (λ i. cond (ltb ray (m .rays i) && ltb bin (m .bins i)) (binOf (toldBy p ray bin)) (B.Refused Argument))
+    ∙ (λ i. cond (ltb ray (m .rays i) && ltb bin (m .bins i)) (binOf (toldBy p ray bin)) (B.Refused (refuse Argument 0)))
 
 module _ (s : List ℕ) (cs : List Cut) (a : Accepted s cs) where
-  on-cut : (i : ℕ) → i < length cs → {X : Type 0} (bad : FileRefusal → X) (no-cut : X) (some : Cut → X) → onCut bad no-cut some i (verdict s) ≡ some (getD cs i noCut)
-  on-cut i lt bad no-cut some = cut-accepted ownChecks kinds exact s bad no-cut some i cs a lt
+  on-cut : (i : ℕ) → i < length cs → {X : Type 0} (bad : Refusal → X) (some : Cut → X) → onCut bad some i (verdict s) ≡ some (getD cs i noCut)
+  on-cut i lt bad some = cut-accepted ownChecks kinds exact s bad some i cs a lt
 
 pub same-dual-calls : (s t : List ℕ) (cs ds : List Cut) → Accepted s cs → Accepted t ds → (i j : ℕ) → i < length cs → j < length ds
     → partsAt s (getD cs i noCut) ≡ partsAt t (getD ds j noCut) → SameDualCalls s i t j
@@ -68,12 +69,12 @@ same-dual-calls s t cs ds a b i j lt lu e =
     let n = dual-told-at t ds b j lu in
     let grid = m .grid ∙ ap (λ (p : Parts). gridAt (p .three) 0) e ∙ sym (n .grid) in
     record {
-      cut = on-cut s cs a i lt _ _ _ ∙ ap C.Cut grid ∙ sym (on-cut t ds b j lu _ _ _);
+      cut = on-cut s cs a i lt _ _ ∙ ap C.Cut grid ∙ sym (on-cut t ds b j lu _ _);
       bin =
           λ ray bin.
-          on-cut s cs a i lt _ _ _
+          on-cut s cs a i lt _ _
           ∙ bin-by s _ _ m ray bin ∙ ap (λ (p : Parts). binBy p ray bin) e ∙ sym (bin-by t _ _ n ray bin)
-          ∙ sym (on-cut t ds b j lu _ _ _);
+          ∙ sym (on-cut t ds b j lu _ _);
     }
 
 -- an accepted file with the section 1 of another, whose first cut stood in that other one, opens as that other one does, but for the number of cuts

@@ -15,7 +15,7 @@ use Rattle.layout.proofs.Exact.{exact}
 use Rattle.layout.proofs.First.{as-first}
 use Rattle.polar.specs.Opening.{summaryOf, openAnswer}
 use Rattle.polar.specs.declared.Opened.the-variants as O
-use Rattle.polar.proofs.ByVerdict.{file-accepted}
+use Rattle.calls.proofs.ByVerdict.{file-accepted}
 use Rattle.files.specs.File.{Parts, partsAt}
 use Rattle.files.proofs.Each.{four-alike, time-alike}
 use Rattle.moved.specs.Told.{productBy}

@@ -1,3 +1,1 @@
-pub mod OnCut
 pub mod Answering
-pub mod ByVerdict

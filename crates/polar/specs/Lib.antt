@@ -1,6 +1,5 @@
-pub mod Refusals
-pub mod Cuts
 pub mod Opening
 pub mod Rays
 pub mod Stretching
+pub mod Promises
 pub mod Reasons

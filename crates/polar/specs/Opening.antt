@@ -10,7 +10,7 @@ use Rattle.sections.specs.Parts.{timeOf, gridAt}
 use Rattle.layout.specs.Parts.{productIn}
 use Rattle.layout.specs.Verdict.{verdict}
 use Rattle.sections.specs.declared.Cut.{Cut}
-use Rattle.polar.specs.Cuts.{onFile, onCut}
+use Rattle.calls.specs.Cuts.{onFile, onCut}
 use Rattle.polar.specs.declared.Summary.{Summary}
 use Rattle.polar.specs.declared.Opened.{Opened}
 use Rattle.polar.specs.declared.Opened.the-variants as O
@@ -19,7 +19,6 @@ use Rattle.polar.specs.declared.Elevation.the-variants.{Missing, Hundred
 use Rattle.polar.specs.declared.CutInfo.{CutInfo}
 use Rattle.polar.specs.declared.CutAnswer.{CutAnswer}
 use Rattle.polar.specs.declared.CutAnswer.the-variants as C
-use Rattle.polar.specs.declared.AskRefusal.the-variants.{File, Argument}
 
 -- "product, time, site, number of cuts": product and site are those of the first cut's section 4
 abbrev pub summaryOf : List ℕ → ℕ → Cut → Summary
@@ -49,4 +48,4 @@ infoOf s c =
     }
 
 unfoldable pub cutAnswer : List ℕ → ℕ → CutAnswer
-cutAnswer s i = onCut (λ r. C.Refused (File r)) (C.Refused Argument) (λ c. C.Cut (infoOf s c)) i (verdict s)
+cutAnswer s i = onCut C.Refused (λ c. C.Cut (infoOf s c)) i (verdict s)

@@ -11,31 +11,26 @@ use Rattle.values.specs.Reading.{readingOf}
 use Rattle.values.specs.Ray.{marksOf, valuesOf}
 use Rattle.values.specs.declared.Reading.{Reading}
 use Rattle.values.specs.declared.Reading.the-variants as R
+use Rattle.sections.specs.Refusal.{refuse}
+use Rattle.sections.specs.declared.Why.the-variants.{Argument, Room}
 use Rattle.sections.specs.Parts.{binsIn, raysIn}
 use Rattle.layout.specs.Parts.{productIn, levelIn}
 use Rattle.layout.specs.Verdict.{verdict}
 use Rattle.sections.specs.declared.Cut.{Cut}
 use Rattle.cuts.specs.Bins.{rayIn}
-use Rattle.polar.specs.Cuts.{onCut, cutIn}
-use Rattle.polar.specs.declared.RayAnswer.{RayAnswer}
-use Rattle.polar.specs.declared.RayAnswer.the-variants.{Written, Refused}
-use Rattle.polar.specs.declared.FillRefusal.the-variants.{File, Argument, Room}
-use Rattle.polar.specs.declared.BinAnswer.{BinAnswer}
-use Rattle.polar.specs.declared.BinAnswer.the-variants as B
-use Rattle.polar.specs.declared.AskRefusal.the-variants as A
+use Rattle.calls.specs.Cuts.{onCut, cutIn, ifWritten}
+use Rattle.calls.specs.declared.RayAnswer.{RayAnswer}
+use Rattle.calls.specs.declared.RayAnswer.the-variants.{Written, Refused}
+use Rattle.calls.specs.declared.BinAnswer.{BinAnswer}
+use Rattle.calls.specs.declared.BinAnswer.the-variants as B
 
 -- 10 for the ray, then 11 for room under Nb
 unfoldable pub rayOn : List ℕ → ℕ → ℕ → Cut → RayAnswer
-rayOn s ray room c = cond (ltb ray (raysIn s c)) (cond (ltb room (binsIn s c)) (Refused Room) Written) (Refused Argument)
+rayOn s ray room c = cond (ltb ray (raysIn s c)) (cond (ltb room (binsIn s c)) (Refused (refuse Room 0)) Written) (Refused (refuse Argument 0))
 
 -- both ray calls; of two rooms the smaller counts: "under Nb (either buffer)"
 unfoldable pub rayAnswer : List ℕ → ℕ → ℕ → ℕ → RayAnswer
-rayAnswer s i ray room = onCut (λ r. Refused (File r)) (Refused Argument) (rayOn s ray room) i (verdict s)
-
--- lent memory afterwards: what is written, or what it was
-abbrev pub ifWritten : {A : Type 0} → RayAnswer → A → A → A
-ifWritten Written new old = new
-ifWritten (Refused r) new old = old
+rayAnswer s i ray room = onCut Refused (rayOn s ray room) i (verdict s)
 
 -- "Nb octets at the front of a lent buffer"
 unfoldable pub levelsAfter : RayAnswer → List ℕ → ℕ → ℕ → List ℕ → List ℕ
@@ -56,7 +51,7 @@ binOf (R.Number z) = B.Value (hundredths z)
 -- 10 for the ray or the bin
 unfoldable pub binOn : List ℕ → ℕ → ℕ → Cut → BinAnswer
 binOn s ray bin c =
-    cond (ltb ray (raysIn s c) && ltb bin (binsIn s c)) (binOf (readingOf (productIn s c) (levelIn s c ray bin))) (B.Refused A.Argument)
+    cond (ltb ray (raysIn s c) && ltb bin (binsIn s c)) (binOf (readingOf (productIn s c) (levelIn s c ray bin))) (B.Refused (refuse Argument 0))
 
 unfoldable pub binAnswer : List ℕ → ℕ → ℕ → ℕ → BinAnswer
-binAnswer s i ray bin = onCut (λ r. B.Refused (A.File r)) (B.Refused A.Argument) (binOn s ray bin) i (verdict s)
+binAnswer s i ray bin = onCut B.Refused (binOn s ray bin) i (verdict s)

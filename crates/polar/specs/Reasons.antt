@@ -1,18 +1,37 @@
--- Why a call that fills nothing refuses, by document 01's order: the file's own refusal; then 10 for the cut, or for another argument. Of any format.
+-- Why each call refuses, by document 01's order: the file's own refusal; then 10 for the cut, or another argument; then 11 for room.
 use Prim.Native.Nat.{ℕ, _≤_, _<_}
+use mathlib.Core.Path.{_≡_}
+use mathlib.Core.Bool.{false}
+use mathlib.Core.Logic.{_⊎_}
 use mathlib.Core.List.{List}
-use lib.ListN.{length, getD}
-use Rattle.sections.specs.Checks.{Own}
-use Rattle.sections.specs.Verdict.{noCut}
-use Rattle.sections.specs.Accepted.{Kinds, AcceptedBy}
-use Rattle.sections.specs.Refused.{RefusedBy}
+use lib.IntN.{ℤ}
+use Rattle.sections.specs.Parts.{binsIn, raysIn}
 use Rattle.sections.specs.declared.Cut.{Cut}
-use Rattle.sections.specs.declared.FileRefusal.{FileRefusal}
-use Rattle.polar.specs.declared.AskRefusal.{AskRefusal}
-use Rattle.polar.specs.declared.AskRefusal.the-variants.{File, Argument}
+use Rattle.sections.specs.declared.Refusal.{Refusal}
+use Rattle.layout.specs.Checks.{ownChecks}
+use Rattle.layout.specs.Accepted.{kinds}
+use Rattle.stretches.specs.Stretch.{perEntry}
+use Rattle.stretches.specs.Call.{rightT, rightPoint}
+use Rattle.calls.specs.Reasons.{Reason, Asking, Filling}
 
--- `Wrong c` says that an argument other than the cut's number is outside its range
-pub data AskReason (own : Own) (kinds : Kinds) (s : List ℕ) (i : ℕ) (Wrong : Cut → Type 0) : AskRefusal → Type 0 where
-  by-file : {r : FileRefusal} → RefusedBy own s r → AskReason own kinds s i Wrong (File r)
-  by-cut : {cs : List Cut} → AcceptedBy kinds s cs → length cs ≤ i → AskReason own kinds s i Wrong Argument
-  by-argument : {cs : List Cut} → AcceptedBy kinds s cs → i < length cs → Wrong (getD cs i noCut) → AskReason own kinds s i Wrong Argument
+abbrev pub CutReasons : List ℕ → ℕ → Refusal → Type 0
+CutReasons s i = Reason ownChecks kinds s i (Asking (λ c. ⊥))
+
+-- on a cut, where the lent room is so long (of two rooms the smaller)
+abbrev pub RayFault : List ℕ → ℕ → ℕ → Cut → Refusal → Type 0
+RayFault s ray room = Filling (λ c. raysIn s c ≤ ray) (λ c. room < binsIn s c)
+
+abbrev pub RayReasons : List ℕ → ℕ → ℕ → ℕ → Refusal → Type 0
+RayReasons s i ray room = Reason ownChecks kinds s i (RayFault s ray room)
+
+abbrev pub BinFault : List ℕ → ℕ → ℕ → Cut → Refusal → Type 0
+BinFault s ray bin = Asking (λ c. (raysIn s c ≤ ray) ⊎ (binsIn s c ≤ bin))
+
+abbrev pub BinReasons : List ℕ → ℕ → ℕ → ℕ → Refusal → Type 0
+BinReasons s i ray bin = Reason ownChecks kinds s i (BinFault s ray bin)
+
+abbrev pub ListFault : List ℕ → ℤ → ℕ → ℕ → ℕ → Cut → Refusal → Type 0
+ListFault s t ray bin room = Filling (λ c. (rightT t ≡ false) ⊎ (rightPoint (binsIn s c) (raysIn s c) ray bin ≡ false)) (λ c. room < perEntry)
+
+abbrev pub ListReasons : List ℕ → ℕ → ℤ → ℕ → ℕ → ℕ → Refusal → Type 0
+ListReasons s i t ray bin room = Reason ownChecks kinds s i (ListFault s t ray bin room)

@@ -4,26 +4,27 @@ use mathlib.Core.List.{List}
 use mathlib.Core.Bool.{cond, _&&_}
 use lib.Dec.{ltb}
 use lib.IntN.{ℤ, pos}
+use Rattle.sections.specs.Refusal.{refuse}
+use Rattle.sections.specs.declared.Why.the-variants.{Argument, Room}
 use Rattle.sections.specs.Parts.{binsIn, raysIn}
 use Rattle.layout.specs.Verdict.{verdict}
 use Rattle.sections.specs.declared.Cut.{Cut}
 use Rattle.stretches.specs.Stretch.{perEntry}
 use Rattle.stretches.specs.Call.{houseThreshold, answerOf, outOf, rightT, rightPoint}
 use Rattle.cuts.specs.Bins.{stretchesIn}
-use Rattle.polar.specs.Cuts.{onCut, cutIn}
+use Rattle.calls.specs.Cuts.{onCut, cutIn}
 use Rattle.polar.specs.declared.StretchAnswer.{StretchAnswer}
 use Rattle.polar.specs.declared.StretchAnswer.the-variants.{Listed, Refused}
-use Rattle.polar.specs.declared.FillRefusal.the-variants.{File, Argument, Room}
 
 -- 10 for T and the point, then 11 for room under 4 words
 unfoldable pub stretchesOn : List ℕ → ℤ → ℕ → ℕ → ℕ → Cut → StretchAnswer
 stretchesOn s t ray bin room c =
     cond (rightT t && rightPoint (binsIn s c) (raysIn s c) ray bin)
-    (cond (ltb room perEntry) (Refused Room) (Listed (answerOf (raysIn s c) room (stretchesIn s c t ray bin))))
-    (Refused Argument)
+    (cond (ltb room perEntry) (Refused (refuse Room 0)) (Listed (answerOf (raysIn s c) room (stretchesIn s c t ray bin))))
+    (Refused (refuse Argument 0))
 
 unfoldable pub stretchAnswer : List ℕ → ℕ → ℤ → ℕ → ℕ → ℕ → StretchAnswer
-stretchAnswer s i t ray bin room = onCut (λ r. Refused (File r)) (Refused Argument) (stretchesOn s t ray bin room) i (verdict s)
+stretchAnswer s i t ray bin room = onCut Refused (stretchesOn s t ray bin room) i (verdict s)
 
 -- the words afterwards: those of the entries that fit, or what they were
 abbrev pub ifListed : StretchAnswer → List ℕ → List ℕ → List ℕ

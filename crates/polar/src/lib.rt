@@ -1,14 +1,18 @@
 // THE CALLS of a run-length packed file: document 01, "Calls". Each is lent the whole file, makes all the file's checks itself, then answers or refuses by 10, then 11;
 // none asks anything of its caller. What each answers, and what it leaves in lent memory, is one definition of specs/. Below it stand `walks` (the
 // file's checks) and `cuts` (one cut of an accepted file); above it `records` (wish 4's calls), `dualpol` (the other format's calls), `demands` and `polar_c` (the calls for C and Rust).
+use calls::BinAnswer;
+use calls::RayAnswer;
+use calls::Sought;
 use sections::Cut;
-use sections::FileRefusal;
 use sections::Grid;
+use sections::Refusal;
 use sections::Time;
-use sections::Walked;
+use sections::Why;
 use stretches::Listing;
 use values::Product;
 use values::Reading;
+use walks::Walked;
 ghost use mathlib.Core.Path.{_≡_};
 ghost use Prim.Native.Nat.{min};
 ghost use lib.ListN.{length};
@@ -18,22 +22,11 @@ ghost use Rattle.layout.specs.Parts.{productIn};
 ghost use Rattle.layout.specs.Good.{GoodCut};
 ghost use Rattle.stretches.specs.Call.{outOf};
 ghost use Rattle.cuts.specs.Bins.{rayIn, stretchesIn};
-ghost use Rattle.polar.specs.Opening.{summaryOf, openAnswer, elevationOf, infoOf, cutAnswer};
-ghost use Rattle.polar.specs.Rays.{rayOn, rayAnswer, ifWritten, levelsAfter, marksAfter, valuesAfter, binOf, binOn, binAnswer};
-ghost use Rattle.polar.specs.Stretching.{stretchesOn, stretchAnswer, ifListed, wordsAfter, house};
-
-// Refusals of a call that fills nothing: the file's own, or 10.
-pub enum AskRefusal {
-    File(FileRefusal),
-    Argument,
-}
-
-// Refusals of a call that fills lent memory: the file's own, 10, or 11.
-pub enum FillRefusal {
-    File(FileRefusal),
-    Argument,
-    Room,
-}
+ghost use Rattle.calls.specs.Cuts.{ifWritten};
+ghost use Rattle.polar.specs.Opening.{summaryOf, elevationOf, infoOf};
+ghost use Rattle.polar.specs.Rays.{rayOn, binOf, binOn};
+ghost use Rattle.polar.specs.Stretching.{stretchesOn, ifListed, house};
+ghost use Rattle.polar.specs.Promises.{OpenPromise, CutPromise, LevelsPromise, ValuesPromise, BinPromise, StretchesPromise};
 
 // What is common to all cuts of a file.
 pub struct Summary {
@@ -45,7 +38,7 @@ pub struct Summary {
 
 pub enum Opened {
     File(Summary),
-    Refused(FileRefusal),
+    Refused(Refusal),
 }
 
 pub enum Elevation {
@@ -63,24 +56,12 @@ pub struct CutInfo {
 
 pub enum CutAnswer {
     Cut(CutInfo),
-    Refused(AskRefusal),
-}
-
-// What both ray calls answer, and index building (crate `records`).
-pub enum RayAnswer {
-    Written,
-    Refused(FillRefusal),
-}
-
-pub enum BinAnswer {
-    Missing,
-    Value(f64),
-    Refused(AskRefusal),
+    Refused(Refusal),
 }
 
 pub enum StretchAnswer {
     Listed(Listing),
-    Refused(FillRefusal),
+    Refused(Refusal),
 }
 
 // ---- open and cut
@@ -102,14 +83,14 @@ fn summary_of(file: &[u8], n: usize, c: Cut) -> Summary
 
 // Open: product, time, site and number of cuts.
 pub fn open(file: &[u8]) -> Opened
-    ensures { λ r. ⌜ r ≡ openAnswer (now (file .entry)) ⌝ }
+    ensures { λ r. ⌜ OpenPromise (now (file .entry)) r ⌝ }
 {
     match walks::walk(file, 0) {
-        Walked::Whole(f) => {
+        Walked::Accepted(f) => {
             let c = f.cut;
             Opened::File(summary_of(file, f.cuts, c))
         }
-        Walked::Rejected(refusal) => Opened::Refused(refusal),
+        Walked::Refused(refusal) => Opened::Refused(refusal),
     }
 }
 
@@ -142,17 +123,11 @@ fn info_of(file: &[u8], c: Cut) -> CutInfo
 
 // Cut: what the file says of cut i.
 pub fn cut_info(file: &[u8], i: usize) -> CutAnswer
-    ensures { λ r. ⌜ r ≡ cutAnswer (now (file .entry)) i ⌝ }
+    ensures { λ r. ⌜ CutPromise (now (file .entry)) i r ⌝ }
 {
-    match walks::walk(file, i) {
-        Walked::Whole(f) => {
-            let c = f.cut;
-            if i < f.cuts {
-                return CutAnswer::Cut(info_of(file, c));
-            }
-            CutAnswer::Refused(AskRefusal::Argument)
-        }
-        Walked::Rejected(refusal) => CutAnswer::Refused(AskRefusal::File(refusal)),
+    match calls::find(file, i) {
+        Sought::Cut(c) => CutAnswer::Cut(info_of(file, c)),
+        Sought::Refused(refusal) => CutAnswer::Refused(refusal),
     }
 }
 
@@ -166,10 +141,16 @@ fn ray_levels_on(file: &[u8], c: Cut, ray: usize, out: &mut [u8]) -> RayAnswer
     let nr = sections::rays_in(file, c);
     let nb = sections::bins_in(file, c);
     if nr <= ray {
-        return RayAnswer::Refused(FillRefusal::Argument);
+        return RayAnswer::Refused(Refusal {
+            why: Why::Argument,
+            place: 0,
+        });
     }
     if out.len() < nb {
-        return RayAnswer::Refused(FillRefusal::Room);
+        return RayAnswer::Refused(Refusal {
+            why: Why::Room,
+            place: 0,
+        });
     }
     cuts::ray_into(file, c, ray, out);
     RayAnswer::Written
@@ -177,18 +158,11 @@ fn ray_levels_on(file: &[u8], c: Cut, ray: usize, out: &mut [u8]) -> RayAnswer
 
 // Ray levels: Nb octets at the front of out.
 pub fn ray_levels(file: &[u8], i: usize, ray: usize, out: &mut [u8]) -> RayAnswer
-    ensures { λ r. ⌜ r ≡ rayAnswer (now (file .entry)) i ray (length (now (out .entry))) ⌝ }
-    ensures { λ r. ⌜ now (out .exit) ≡ levelsAfter r (now (file .entry)) i ray (now (out .entry)) ⌝ }
+    ensures { λ r. ⌜ LevelsPromise (now (file .entry)) i ray (now (out .entry)) r (now (out .exit)) ⌝ }
 {
-    match walks::walk(file, i) {
-        Walked::Whole(f) => {
-            let c = f.cut;
-            if i < f.cuts {
-                return ray_levels_on(file, c, ray, out);
-            }
-            RayAnswer::Refused(FillRefusal::Argument)
-        }
-        Walked::Rejected(refusal) => RayAnswer::Refused(FillRefusal::File(refusal)),
+    match calls::find(file, i) {
+        Sought::Cut(c) => ray_levels_on(file, c, ray, out),
+        Sought::Refused(refusal) => RayAnswer::Refused(refusal),
     }
 }
 
@@ -201,13 +175,22 @@ fn ray_values_on(file: &[u8], c: Cut, ray: usize, marks: &mut [u8], values: &mut
     let nr = sections::rays_in(file, c);
     let nb = sections::bins_in(file, c);
     if nr <= ray {
-        return RayAnswer::Refused(FillRefusal::Argument);
+        return RayAnswer::Refused(Refusal {
+            why: Why::Argument,
+            place: 0,
+        });
     }
     if marks.len() < nb {
-        return RayAnswer::Refused(FillRefusal::Room);
+        return RayAnswer::Refused(Refusal {
+            why: Why::Room,
+            place: 0,
+        });
     }
     if values.len() < nb {
-        return RayAnswer::Refused(FillRefusal::Room);
+        return RayAnswer::Refused(Refusal {
+            why: Why::Room,
+            place: 0,
+        });
     }
     cuts::readings_into(file, c, ray, marks, values);
     RayAnswer::Written
@@ -221,19 +204,11 @@ pub fn ray_values(
     marks: &mut [u8],
     values: &mut [i32],
 ) -> RayAnswer
-    ensures { λ r. ⌜ r ≡ rayAnswer (now (file .entry)) i ray (min (length (now (marks .entry))) (length (now (values .entry)))) ⌝ }
-    ensures { λ r. ⌜ now (marks .exit) ≡ marksAfter r (now (file .entry)) i ray (now (marks .entry)) ⌝ }
-    ensures { λ r. ⌜ now (values .exit) ≡ valuesAfter r (now (file .entry)) i ray (now (values .entry)) ⌝ }
+    ensures { λ r. ⌜ ValuesPromise (now (file .entry)) i ray (now (marks .entry)) (now (values .entry)) r (now (marks .exit)) (now (values .exit)) ⌝ }
 {
-    match walks::walk(file, i) {
-        Walked::Whole(f) => {
-            let c = f.cut;
-            if i < f.cuts {
-                return ray_values_on(file, c, ray, marks, values);
-            }
-            RayAnswer::Refused(FillRefusal::Argument)
-        }
-        Walked::Rejected(refusal) => RayAnswer::Refused(FillRefusal::File(refusal)),
+    match calls::find(file, i) {
+        Sought::Cut(c) => ray_values_on(file, c, ray, marks, values),
+        Sought::Refused(refusal) => RayAnswer::Refused(refusal),
     }
 }
 
@@ -254,10 +229,16 @@ fn bin_value_on(file: &[u8], c: Cut, ray: usize, bin: usize) -> BinAnswer
     let nr = sections::rays_in(file, c);
     let nb = sections::bins_in(file, c);
     if nr <= ray {
-        return BinAnswer::Refused(AskRefusal::Argument);
+        return BinAnswer::Refused(Refusal {
+            why: Why::Argument,
+            place: 0,
+        });
     }
     if nb <= bin {
-        return BinAnswer::Refused(AskRefusal::Argument);
+        return BinAnswer::Refused(Refusal {
+            why: Why::Argument,
+            place: 0,
+        });
     }
     let product = layout::product_in(file, c);
     bin_of(values::reading_of(product, cuts::level_in(file, c, ray, bin)))
@@ -265,17 +246,11 @@ fn bin_value_on(file: &[u8], c: Cut, ray: usize, bin: usize) -> BinAnswer
 
 // Bin value: missing, or the value.
 pub fn bin_value(file: &[u8], i: usize, ray: usize, bin: usize) -> BinAnswer
-    ensures { λ r. ⌜ r ≡ binAnswer (now (file .entry)) i ray bin ⌝ }
+    ensures { λ r. ⌜ BinPromise (now (file .entry)) i ray bin r ⌝ }
 {
-    match walks::walk(file, i) {
-        Walked::Whole(f) => {
-            let c = f.cut;
-            if i < f.cuts {
-                return bin_value_on(file, c, ray, bin);
-            }
-            BinAnswer::Refused(AskRefusal::Argument)
-        }
-        Walked::Rejected(refusal) => BinAnswer::Refused(AskRefusal::File(refusal)),
+    match calls::find(file, i) {
+        Sought::Cut(c) => bin_value_on(file, c, ray, bin),
+        Sought::Refused(refusal) => BinAnswer::Refused(refusal),
     }
 }
 
@@ -296,13 +271,22 @@ fn stretches_on(
     let nr = sections::rays_in(file, c);
     let nb = sections::bins_in(file, c);
     if !stretches::right_t(t) {
-        return StretchAnswer::Refused(FillRefusal::Argument);
+        return StretchAnswer::Refused(Refusal {
+            why: Why::Argument,
+            place: 0,
+        });
     }
     if !stretches::right_point(nb, nr, ray, bin) {
-        return StretchAnswer::Refused(FillRefusal::Argument);
+        return StretchAnswer::Refused(Refusal {
+            why: Why::Argument,
+            place: 0,
+        });
     }
     if words.len() < stretches::WORDS {
-        return StretchAnswer::Refused(FillRefusal::Room);
+        return StretchAnswer::Refused(Refusal {
+            why: Why::Room,
+            place: 0,
+        });
     }
     StretchAnswer::Listed(cuts::list_into(file, c, t, ray, bin, words))
 }
@@ -316,18 +300,11 @@ pub fn stretches(
     bin: usize,
     words: &mut [u32],
 ) -> StretchAnswer
-    ensures { λ r. ⌜ r ≡ stretchAnswer (now (file .entry)) i t ray bin (length (now (words .entry))) ⌝ }
-    ensures { λ r. ⌜ now (words .exit) ≡ wordsAfter r (now (file .entry)) i t ray bin (now (words .entry)) ⌝ }
+    ensures { λ r. ⌜ StretchesPromise (now (file .entry)) i t ray bin (now (words .entry)) r (now (words .exit)) ⌝ }
 {
-    match walks::walk(file, i) {
-        Walked::Whole(f) => {
-            let c = f.cut;
-            if i < f.cuts {
-                return stretches_on(file, c, t, ray, bin, words);
-            }
-            StretchAnswer::Refused(FillRefusal::Argument)
-        }
-        Walked::Rejected(refusal) => StretchAnswer::Refused(FillRefusal::File(refusal)),
+    match calls::find(file, i) {
+        Sought::Cut(c) => stretches_on(file, c, t, ray, bin, words),
+        Sought::Refused(refusal) => StretchAnswer::Refused(refusal),
     }
 }
 
@@ -339,8 +316,7 @@ pub fn house_stretches(
     bin: usize,
     words: &mut [u32],
 ) -> StretchAnswer
-    ensures { λ r. ⌜ r ≡ stretchAnswer (now (file .entry)) i house ray bin (length (now (words .entry))) ⌝ }
-    ensures { λ r. ⌜ now (words .exit) ≡ wordsAfter r (now (file .entry)) i house ray bin (now (words .entry)) ⌝ }
+    ensures { λ r. ⌜ StretchesPromise (now (file .entry)) i house ray bin (now (words .entry)) r (now (words .exit)) ⌝ }
 {
     stretches(file, i, stretches::HOUSE, ray, bin, words)
 }

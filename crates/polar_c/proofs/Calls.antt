@@ -4,7 +4,7 @@ use mathlib.Core.Path.{_≡_, sym, _∙_}
 use mathlib.Core.List.{List}
 use lib.IntN.{ℤ}
 use lib.Ieee.{Float}
-use Rattle.polar.specs.declared.BinAnswer.{BinAnswer}
+use Rattle.calls.specs.declared.BinAnswer.{BinAnswer}
 use Rattle.polar_c.specs.Runs.{RunCheckCall, RunReadCall, RunWriteCall}
 use Rattle.index.specs.declared.RayRecord.{RayRecord}
 use Rattle.polar_c.specs.Records.{BuildIndexCall, RayLevelsFromCall, RayValuesFromCall}
@@ -35,7 +35,7 @@ pub ray-values-one : {file : List ℕ} {cut ray : ℕ} {marks : List ℕ} {value
 ray-values-one p q =
     (p .returned ∙ sym (q .returned), p .marked ∙ sym (q .marked), p .held ∙ sym (q .held), p .told ∙ sym (q .told))
 
--- of bin value, in both formats
+-- of bin value, in both formats (a dual-polarisation file's promise has it as its part `told`)
 pub bin-told-one : {r : BinAnswer} {value : Float} {answer : List ℕ} {x y : ℕ} {v v′ : Float} {w w′ : List ℕ} →
     BinTold r value answer x v w → BinTold r value answer y v′ w′ → (x ≡ y) × (v ≡ v′) × (w ≡ w′)
 bin-told-one p q = (p .returned ∙ sym (q .returned), p .held ∙ sym (q .held), p .told ∙ sym (q .told))

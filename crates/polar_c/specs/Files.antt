@@ -9,8 +9,7 @@ use lib.IntN.{ℤ, pos}
 use lib.Ieee.{Float}
 use Rattle.values.specs.declared.Product.{Product}
 use Rattle.values.specs.declared.Product.the-variants.{Reflectivity, Velocity}
-use Rattle.sections.specs.Refusal.{numberOf, placeOf}
-use Rattle.polar.specs.Refusals.{askNumber, askPlace, fillNumber, fillPlace}
+use Rattle.sections.specs.Refusal.{numberOf}
 use Rattle.polar.specs.Opening.{openAnswer, cutAnswer}
 use Rattle.polar.specs.Rays.{rayAnswer, levelsAfter, marksAfter, valuesAfter, binAnswer}
 use Rattle.polar.specs.Stretching.{stretchAnswer, wordsAfter}
@@ -23,10 +22,10 @@ use Rattle.polar.specs.declared.Elevation.the-variants as E
 use Rattle.polar.specs.declared.CutInfo.{CutInfo}
 use Rattle.polar.specs.declared.CutAnswer.{CutAnswer}
 use Rattle.polar.specs.declared.CutAnswer.the-variants as C
-use Rattle.polar.specs.declared.RayAnswer.{RayAnswer}
-use Rattle.polar.specs.declared.RayAnswer.the-variants as R
-use Rattle.polar.specs.declared.BinAnswer.{BinAnswer}
-use Rattle.polar.specs.declared.BinAnswer.the-variants as B
+use Rattle.calls.specs.declared.RayAnswer.{RayAnswer}
+use Rattle.calls.specs.declared.RayAnswer.the-variants as R
+use Rattle.calls.specs.declared.BinAnswer.{BinAnswer}
+use Rattle.calls.specs.declared.BinAnswer.the-variants as B
 use Rattle.polar.specs.declared.StretchAnswer.{StretchAnswer}
 use Rattle.polar.specs.declared.StretchAnswer.the-variants as S
 
@@ -39,7 +38,7 @@ productNumber Velocity = 2
 
 abbrev pub openNumber : Opened → ℕ
 openNumber (O.File f) = 0
-openNumber (O.Refused why) = numberOf why
+openNumber (O.Refused r) = numberOf (r .why)
 
 -- place, product, year, month, day, hour, minute, second, site, number of cuts
 abbrev pub summaryWords : ℕ → Time → ℕ → ℕ → List ℕ
@@ -58,13 +57,13 @@ summaryWords product time site cuts =
 
 abbrev pub openWords : Opened → List ℕ → List ℕ
 openWords (O.File f) w = sets w 0 (summaryWords (productNumber (f .product)) (f .time) (f .site) (f .cuts))
-openWords (O.Refused why) w = set w 0 (placeOf why)
+openWords (O.Refused r) w = set w 0 (r .place)
 
 -- ---- cut
 
 abbrev pub cutNumber : CutAnswer → ℕ
 cutNumber (C.Cut info) = 0
-cutNumber (C.Refused why) = askNumber why
+cutNumber (C.Refused r) = numberOf (r .why)
 
 -- 0 where the elevation is missing; 1 and the elevation where it is known
 abbrev pub elevationWords : Elevation → List ℤ
@@ -89,45 +88,45 @@ infoWords info = gridWords (info .grid) (pos (info .«start_azimuth») ∷ pos (
 
 abbrev pub cutWords : CutAnswer → List ℤ → List ℤ
 cutWords (C.Cut info) w = sets w 0 (infoWords info)
-cutWords (C.Refused why) w = set w 0 (pos (askPlace why))
+cutWords (C.Refused r) w = set w 0 (pos (r .place))
 
 -- ---- rays and bins
 
 abbrev pub rayNumber : RayAnswer → ℕ
 rayNumber R.Written = 0
-rayNumber (R.Refused why) = fillNumber why
+rayNumber (R.Refused r) = numberOf (r .why)
 
 abbrev pub rayWords : RayAnswer → List ℕ → List ℕ
 rayWords R.Written w = set w 0 0
-rayWords (R.Refused why) w = set w 0 (fillPlace why)
+rayWords (R.Refused r) w = set w 0 (r .place)
 
 abbrev pub binNumber : BinAnswer → ℕ
 binNumber B.Missing = 0
 binNumber (B.Value x) = 0
-binNumber (B.Refused why) = askNumber why
+binNumber (B.Refused r) = numberOf (r .why)
 
 -- place, mark (0 missing, 1 measured)
 abbrev pub binWords : BinAnswer → List ℕ → List ℕ
 binWords B.Missing w = sets w 0 (0 ∷ 0 ∷ [])
 binWords (B.Value x) w = sets w 0 (0 ∷ 1 ∷ [])
-binWords (B.Refused why) w = set w 0 (askPlace why)
+binWords (B.Refused r) w = set w 0 (r .place)
 
 -- the lent float: the value where the bin is measured, else what it held
 abbrev pub binHeld : BinAnswer → Float → Float
 binHeld B.Missing old = old
 binHeld (B.Value x) old = x
-binHeld (B.Refused why) old = old
+binHeld (B.Refused r) old = old
 
 -- ---- stretches
 
 abbrev pub stretchNumber : StretchAnswer → ℕ
 stretchNumber (S.Listed l) = 0
-stretchNumber (S.Refused why) = fillNumber why
+stretchNumber (S.Refused r) = numberOf (r .why)
 
 -- place, count of entries, the next point's ray and bin
 abbrev pub stretchWords : StretchAnswer → List ℕ → List ℕ
 stretchWords (S.Listed l) w = sets w 0 (0 ∷ l .count ∷ l .ray ∷ l .bin ∷ [])
-stretchWords (S.Refused why) w = set w 0 (fillPlace why)
+stretchWords (S.Refused r) w = set w 0 (r .place)
 
 -- ---- the promises: the number returned, and each lent memory after the call
 

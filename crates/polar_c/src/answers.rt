@@ -4,17 +4,15 @@ ghost use mathlib.Core.List.{[]};
 ghost use lib.Seq.{sets};
 ghost use Rattle.polar_c.specs.Runs.{runReadNumber, runReadWords, runWriteNumber, runWriteWords};
 ghost use Rattle.polar_c.specs.Files.{productNumber, summaryWords, gridWords, openNumber, openWords, elevationWords, infoWords, rayNumber, rayWords, binNumber, binWords, binHeld, stretchNumber, stretchWords};
-ghost use Rattle.polar_c.specs.Records.{fromNumber, fromWords};
 ghost use Rattle.polar_c.specs.Dual.{openNumber as dualOpenNumber, openWords as dualOpenWords};
+use calls::BinAnswer;
+use calls::RayAnswer;
 use dualpol::DualOpened;
 use packing::RunWrite;
-use polar::BinAnswer;
 use polar::CutInfo;
 use polar::Elevation;
 use polar::Opened;
-use polar::RayAnswer;
 use polar::StretchAnswer;
-use records::RecordAnswer;
 use runs::RunRead;
 use sections::Grid;
 use sections::Time;
@@ -96,9 +94,9 @@ pub fn tell_open(told: Opened, answer: &mut [u64; 10]) -> u32
             tell_summary(product_number(product), time, f.site, f.cuts, answer);
             0
         }
-        Opened::Refused(why) => {
-            answer[0] = crate::refusals::file_place(why);
-            sections::number_of(why)
+        Opened::Refused(refusal) => {
+            answer[0] = crate::refusals::place_of(refusal);
+            crate::refusals::number_of(refusal)
         }
     }
 }
@@ -136,7 +134,7 @@ pub fn tell_info(info: CutInfo, answer: &mut [i64; 11])
     tell_elevation(elevation, answer);
 }
 
-// of both ray calls and of index building: place
+// of the ray calls, by a record or without one, and of index building: place
 pub fn tell_ray(told: RayAnswer, place: &mut [u64; 1]) -> u32
     ensures { λ r. ⌜ r ≡ rayNumber told ⌝ }
     ensures { λ r. ⌜ now (place .exit) ≡ rayWords told (now (place .entry)) ⌝ }
@@ -146,26 +144,9 @@ pub fn tell_ray(told: RayAnswer, place: &mut [u64; 1]) -> u32
             place[0] = 0;
             0
         }
-        RayAnswer::Refused(why) => {
-            place[0] = crate::refusals::fill_place(why);
-            crate::refusals::fill_number(why)
-        }
-    }
-}
-
-// of both ray calls by a record: place
-pub fn tell_from(told: RecordAnswer, place: &mut [u64; 1]) -> u32
-    ensures { λ r. ⌜ r ≡ fromNumber told ⌝ }
-    ensures { λ r. ⌜ now (place .exit) ≡ fromWords told (now (place .entry)) ⌝ }
-{
-    match told {
-        RecordAnswer::Written => {
-            place[0] = 0;
-            0
-        }
-        RecordAnswer::Refused(why) => {
-            place[0] = crate::refusals::record_place(why);
-            crate::refusals::record_number(why)
+        RayAnswer::Refused(refusal) => {
+            place[0] = crate::refusals::place_of(refusal);
+            crate::refusals::number_of(refusal)
         }
     }
 }
@@ -188,9 +169,9 @@ pub fn tell_bin(told: BinAnswer, value: &mut f64, answer: &mut [u64; 2]) -> u32
             answer[1] = 1;
             0
         }
-        BinAnswer::Refused(why) => {
-            answer[0] = crate::refusals::ask_place(why);
-            crate::refusals::ask_number(why)
+        BinAnswer::Refused(refusal) => {
+            answer[0] = crate::refusals::place_of(refusal);
+            crate::refusals::number_of(refusal)
         }
     }
 }
@@ -208,9 +189,9 @@ pub fn tell_stretches(told: StretchAnswer, answer: &mut [u64; 4]) -> u32
             answer[3] = l.bin as u64;
             0
         }
-        StretchAnswer::Refused(why) => {
-            answer[0] = crate::refusals::fill_place(why);
-            crate::refusals::fill_number(why)
+        StretchAnswer::Refused(refusal) => {
+            answer[0] = crate::refusals::place_of(refusal);
+            crate::refusals::number_of(refusal)
         }
     }
 }
@@ -227,9 +208,9 @@ pub fn tell_dual_open(told: DualOpened, answer: &mut [u64; 10]) -> u32
             tell_summary(f.parameter as u64, time, f.site, f.cuts, answer);
             0
         }
-        DualOpened::Refused(why) => {
-            answer[0] = crate::refusals::file_place(why);
-            sections::number_of(why)
+        DualOpened::Refused(refusal) => {
+            answer[0] = crate::refusals::place_of(refusal);
+            crate::refusals::number_of(refusal)
         }
     }
 }

@@ -71,9 +71,9 @@ pub extern "C" fn polar_cut(file: &[u8], cut: usize, answer: &mut [i64; 11]) -> 
             answers::tell_info(info, answer);
             0
         }
-        CutAnswer::Refused(why) => {
-            answer[0] = refusals::ask_place(why) as i64;
-            refusals::ask_number(why)
+        CutAnswer::Refused(refusal) => {
+            answer[0] = refusals::place_of(refusal) as i64;
+            refusals::number_of(refusal)
         }
     }
 }
@@ -183,7 +183,7 @@ pub extern "C" fn polar_ray_levels_from(
     ensures { λ r. ⌜ RayLevelsFromCall (now (file .entry)) cut ray offset before (now (levels .entry)) (now (place .entry)) r (now (levels .exit)) (now (place .exit)) ⌝ }
 {
     let rec = RayRecord { offset, before };
-    answers::tell_from(records::ray_levels_from(file, cut, ray, rec, levels), place)
+    answers::tell_ray(records::ray_levels_from(file, cut, ray, rec, levels), place)
 }
 
 // Ray values by a record: Nb marks, and the value at each measured place.
@@ -201,7 +201,7 @@ pub extern "C" fn polar_ray_values_from(
     ensures { λ r. ⌜ RayValuesFromCall (now (file .entry)) cut ray offset before (now (marks .entry)) (now (values .entry)) (now (place .entry)) r (now (marks .exit)) (now (values .exit)) (now (place .exit)) ⌝ }
 {
     let rec = RayRecord { offset, before };
-    answers::tell_from(
+    answers::tell_ray(
         records::ray_values_from(file, cut, ray, rec, marks, values),
         place,
     )
@@ -227,9 +227,9 @@ pub extern "C" fn polar_dual_cut(file: &[u8], cut: usize, answer: &mut [i64; 7])
             answers::tell_grid(grid, answer);
             0
         }
-        DualCut::Refused(why) => {
-            answer[0] = refusals::ask_place(why) as i64;
-            refusals::ask_number(why)
+        DualCut::Refused(refusal) => {
+            answer[0] = refusals::place_of(refusal) as i64;
+            refusals::number_of(refusal)
         }
     }
 }

@@ -2,16 +2,11 @@
 ghost use mathlib.Core.Path.{_≡_};
 ghost use Rattle.runs.specs.Read.{readNumber, readPlace, checkNumber};
 ghost use Rattle.packing.specs.Write.{writeNumber, writePlace};
-ghost use Rattle.sections.specs.Refusal.{placeOf};
-ghost use Rattle.polar.specs.Refusals.{askNumber, askPlace, fillNumber, fillPlace};
-ghost use Rattle.records.specs.Refusals.{recordNumber, recordPlace};
+ghost use Rattle.sections.specs.Refusal.{numberOf};
 use packing::WriteRefusal;
-use polar::AskRefusal;
-use polar::FillRefusal;
-use records::RecordRefusal;
 use runs::CheckRefusal;
 use runs::ReadRefusal;
-use sections::FileRefusal;
+use sections::Refusal;
 
 // ---- of the bare run calls
 
@@ -67,68 +62,15 @@ pub fn write_place(why: WriteRefusal) -> u64
 
 // ---- of the calls of a file
 
-pub fn file_place(why: FileRefusal) -> u64
-    ensures { λ r. ⌜ r ≡ placeOf why ⌝ }
+pub fn number_of(refusal: Refusal) -> u32
+    ensures { λ r. ⌜ r ≡ numberOf (refusal .why) ⌝ }
 {
-    sections::place_of(why) as u64
+    let why = refusal.why;
+    sections::number_of(why)
 }
 
-pub fn ask_number(why: AskRefusal) -> u32
-    ensures { λ r. ⌜ r ≡ askNumber why ⌝ }
+pub fn place_of(refusal: Refusal) -> u64
+    ensures { λ r. ⌜ r ≡ refusal .place ⌝ }
 {
-    match why {
-        AskRefusal::File(refusal) => sections::number_of(refusal),
-        AskRefusal::Argument => 10,
-    }
-}
-
-pub fn ask_place(why: AskRefusal) -> u64
-    ensures { λ r. ⌜ r ≡ askPlace why ⌝ }
-{
-    match why {
-        AskRefusal::File(refusal) => file_place(refusal),
-        AskRefusal::Argument => 0,
-    }
-}
-
-pub fn fill_number(why: FillRefusal) -> u32
-    ensures { λ r. ⌜ r ≡ fillNumber why ⌝ }
-{
-    match why {
-        FillRefusal::File(refusal) => sections::number_of(refusal),
-        FillRefusal::Argument => 10,
-        FillRefusal::Room => 11,
-    }
-}
-
-pub fn fill_place(why: FillRefusal) -> u64
-    ensures { λ r. ⌜ r ≡ fillPlace why ⌝ }
-{
-    match why {
-        FillRefusal::File(refusal) => file_place(refusal),
-        FillRefusal::Argument => 0,
-        FillRefusal::Room => 0,
-    }
-}
-
-pub fn record_number(why: RecordRefusal) -> u32
-    ensures { λ r. ⌜ r ≡ recordNumber why ⌝ }
-{
-    match why {
-        RecordRefusal::File(refusal) => sections::number_of(refusal),
-        RecordRefusal::Argument => 10,
-        RecordRefusal::Room => 11,
-        RecordRefusal::Record(_) => 13,
-    }
-}
-
-pub fn record_place(why: RecordRefusal) -> u64
-    ensures { λ r. ⌜ r ≡ recordPlace why ⌝ }
-{
-    match why {
-        RecordRefusal::File(refusal) => file_place(refusal),
-        RecordRefusal::Argument => 0,
-        RecordRefusal::Room => 0,
-        RecordRefusal::Record(at) => at as u64,
-    }
+    refusal.place as u64
 }

@@ -19,12 +19,12 @@ use Rattle.layout.specs.Parts.{dataAt, greatestIn}
 use Rattle.layout.specs.Good.{GoodCut}
 use Rattle.cuts.proofs.Places.{greatest-small, data-opens, all-levels, few-bins, ray-inside}
 use borrow.Author.Tests.{lt-ltb, le-ltb}
-use Rattle.polar.specs.Cuts.{cutIn}
-use Rattle.polar.specs.Rays.{ifWritten}
-use Rattle.polar.specs.declared.RayAnswer.{RayAnswer}
-use Rattle.polar.specs.declared.RayAnswer.the-variants.{Written, Refused}
-use Rattle.polar.specs.declared.FillRefusal.{FillRefusal}
-use Rattle.polar.specs.declared.FillRefusal.the-variants.{Room}
+use Rattle.sections.specs.Refusal.{refuse}
+use Rattle.sections.specs.declared.Refusal.{Refusal}
+use Rattle.sections.specs.declared.Why.the-variants.{Room}
+use Rattle.calls.specs.Cuts.{cutIn, ifWritten}
+use Rattle.calls.specs.declared.RayAnswer.{RayAnswer}
+use Rattle.calls.specs.declared.RayAnswer.the-variants.{Written, Refused}
 use Rattle.records.specs.declared.Task.{Task}
 use Rattle.records.specs.Records.{buildOn, buildAnswer, rowAfter}
 use Rattle.records.specs.Building.{startIn, LaysIn, Begins}
@@ -79,7 +79,7 @@ module _ (s : List ℕ) (c : Cut) (g : GoodCut s c) where
 
 -- ---- what building goes by
 module _ (s : List ℕ) (room : ℕ) (c : Cut) where
-  pub build-short : room < raysIn s c → buildOn s room c ≡ Refused Room
+  pub build-short : room < raysIn s c → buildOn s room c ≡ Refused (refuse Room 0)
   unfolding buildOn
   build-short h = rw (lt-ltb _ _ h)
 
@@ -87,7 +87,7 @@ module _ (s : List ℕ) (room : ℕ) (c : Cut) where
   unfolding buildOn
   build-fits h = rw (le-ltb _ _ h)
 
-module _ (s : List ℕ) (b : Task) (why : FillRefusal) (none : b .rays ≡ 0) (going : Going s (b .pace) 0) (answer : b .answer ≡ Refused why) where
+module _ (s : List ℕ) (b : Task) (why : Refusal) (none : b .rays ≡ 0) (going : Going s (b .pace) 0) (answer : b .answer ≡ Refused why) where
   still : Going s (b .pace) (b .rays)
   still = subst (λ (n : ℕ). Going s (b .pace) n) (sym none) going
 

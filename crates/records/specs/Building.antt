@@ -12,7 +12,7 @@ use Rattle.sections.specs.Parts.{binsIn}
 use Rattle.sections.specs.declared.Cut.{Cut}
 use Rattle.layout.specs.Parts.{greatestIn}
 use Rattle.cuts.specs.Records.{recordsIn}
-use Rattle.polar.specs.Rays.{ifWritten}
+use Rattle.calls.specs.Cuts.{ifWritten}
 use Rattle.records.specs.Records.{buildAnswer, rowAfter}
 use Rattle.records.specs.declared.Task.{Task}
 

@@ -1,3 +1,4 @@
-pub mod Refusals
 pub mod Records
+pub mod Promises
+pub mod Reasons
 pub mod Building

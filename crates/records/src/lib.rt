@@ -1,14 +1,14 @@
 // THE CALLS of wish 4, "do not start from the front each time": an index of a cut's rays, built in a lent row of records, and both ray calls by one record. Each is
 // lent the whole file and asks nothing of its caller. Building makes all the file's checks, then answers or refuses by 10, then 11; a call by a record makes all but 8,
-// then 10, 11, 13. Below it stand `walks`, `cuts`, `index` (records of bare data) and `polar`, whose answers and laws it shares; above it `indexed` (the wish's theorems)
+// then 10, 11, 13. Below it stand `walks`, `cuts`, `index` (records of bare data) and `calls`; above it `indexed` (the wish's theorems)
 // and `polar_c` (the calls for C and Rust).
+use calls::RayAnswer;
+use calls::Sought;
 use index::Pace;
 use index::RayRecord;
-use polar::FillRefusal;
-use polar::RayAnswer;
 use sections::Cut;
-use sections::FileRefusal;
-use sections::Walked;
+use sections::Refusal;
+use sections::Why;
 ghost use mathlib.Core.Path.{_≡_};
 ghost use Prim.Native.Nat.{min};
 ghost use lib.ListN.{length};
@@ -19,22 +19,10 @@ ghost use Rattle.sections.specs.Parts.{raysIn};
 ghost use Rattle.layout.specs.Parts.{productIn};
 ghost use Rattle.layout.specs.Good.{AnyDataCut, GoodCut};
 ghost use Rattle.cuts.specs.Records.{rayFrom};
-ghost use Rattle.records.specs.Records.{fromOn, fromAnswer, ifGiven, levelsFrom, marksFrom, valuesFrom, buildOn, BuildPromise};
+ghost use Rattle.calls.specs.Cuts.{ifWritten};
+ghost use Rattle.records.specs.Records.{fromOn, buildOn};
+ghost use Rattle.records.specs.Promises.{BuildPromise, LevelsFromPromise, ValuesFromPromise};
 ghost use Rattle.records.specs.Building.{startIn, LaysIn, Begins};
-
-// Refusals of a ray call by a record: the file's own (but 8), 10, 11, or 13 with the place of section 7.
-pub enum RecordRefusal {
-    File(FileRefusal),
-    Argument,
-    Room,
-    Record(usize),
-}
-
-// What both ray calls by a record answer.
-pub enum RecordAnswer {
-    Written,
-    Refused(RecordRefusal),
-}
 
 // ---- building
 
@@ -74,7 +62,13 @@ fn task_on(file: &[u8], c: Cut, room: usize) -> Task
 {
     let nr = sections::rays_in(file, c);
     if room < nr {
-        return nothing_laid(file, RayAnswer::Refused(FillRefusal::Room));
+        return nothing_laid(
+            file,
+            RayAnswer::Refused(Refusal {
+                why: Why::Room,
+                place: 0,
+            }),
+        );
     }
     Task {
         pace: start_in(file, c),
@@ -86,18 +80,9 @@ fn task_on(file: &[u8], c: Cut, room: usize) -> Task
 fn task_for(file: &[u8], i: usize, room: usize) -> Task
     ensures { λ r. ⌜ Begins (now (file .entry)) i room r ⌝ }
 {
-    match walks::walk(file, i) {
-        Walked::Whole(f) => {
-            let c = f.cut;
-            if i < f.cuts {
-                return task_on(file, c, room);
-            }
-            nothing_laid(file, RayAnswer::Refused(FillRefusal::Argument))
-        }
-        Walked::Rejected(refusal) => nothing_laid(
-            file,
-            RayAnswer::Refused(FillRefusal::File(refusal)),
-        ),
+    match calls::find(file, i) {
+        Sought::Cut(c) => task_on(file, c, room),
+        Sought::Refused(refusal) => nothing_laid(file, RayAnswer::Refused(refusal)),
     }
 }
 
@@ -112,29 +97,32 @@ pub fn build_index(file: &[u8], i: usize, row: &mut [RayRecord]) -> RayAnswer
 
 // ---- rays by a record
 
-fn ray_levels_from_on(
-    file: &[u8],
-    c: Cut,
-    ray: usize,
-    rec: RayRecord,
-    out: &mut [u8],
-) -> RecordAnswer
+fn ray_levels_from_on(file: &[u8], c: Cut, ray: usize, rec: RayRecord, out: &mut [u8]) -> RayAnswer
     requires { ⌜ AnyDataCut (now file) c ⌝ }
     ensures { λ r. ⌜ r ≡ fromOn (now (file .entry)) ray rec (length (now (out .entry))) c ⌝ }
-    ensures { λ r. ⌜ now (out .exit) ≡ ifGiven r (front (rayFrom (now (file .entry)) c rec) (now (out .entry))) (now (out .entry)) ⌝ }
+    ensures { λ r. ⌜ now (out .exit) ≡ ifWritten r (front (rayFrom (now (file .entry)) c rec) (now (out .entry))) (now (out .entry)) ⌝ }
 {
     let nr = sections::rays_in(file, c);
     let nb = sections::bins_in(file, c);
     if nr <= ray {
-        return RecordAnswer::Refused(RecordRefusal::Argument);
+        return RayAnswer::Refused(Refusal {
+            why: Why::Argument,
+            place: 0,
+        });
     }
     if out.len() < nb {
-        return RecordAnswer::Refused(RecordRefusal::Room);
+        return RayAnswer::Refused(Refusal {
+            why: Why::Room,
+            place: 0,
+        });
     }
     if cuts::levels_from(file, c, rec, out) {
-        return RecordAnswer::Written;
+        return RayAnswer::Written;
     }
-    RecordAnswer::Refused(RecordRefusal::Record(c.section7))
+    RayAnswer::Refused(Refusal {
+        why: Why::Record,
+        place: c.section7,
+    })
 }
 
 // Ray levels by a record: what decoding from there gives, Nb octets at the front of out. The data before it is not looked at.
@@ -144,19 +132,12 @@ pub fn ray_levels_from(
     ray: usize,
     rec: RayRecord,
     out: &mut [u8],
-) -> RecordAnswer
-    ensures { λ r. ⌜ r ≡ fromAnswer (now (file .entry)) i ray rec (length (now (out .entry))) ⌝ }
-    ensures { λ r. ⌜ now (out .exit) ≡ levelsFrom r (now (file .entry)) i rec (now (out .entry)) ⌝ }
+) -> RayAnswer
+    ensures { λ r. ⌜ LevelsFromPromise (now (file .entry)) i ray rec (now (out .entry)) r (now (out .exit)) ⌝ }
 {
-    match walks::walk_any(file, i) {
-        Walked::Whole(f) => {
-            let c = f.cut;
-            if i < f.cuts {
-                return ray_levels_from_on(file, c, ray, rec, out);
-            }
-            RecordAnswer::Refused(RecordRefusal::Argument)
-        }
-        Walked::Rejected(refusal) => RecordAnswer::Refused(RecordRefusal::File(refusal)),
+    match calls::find_any(file, i) {
+        Sought::Cut(c) => ray_levels_from_on(file, c, ray, rec, out),
+        Sought::Refused(refusal) => RayAnswer::Refused(refusal),
     }
 }
 
@@ -167,27 +148,39 @@ fn ray_values_from_on(
     rec: RayRecord,
     marks: &mut [u8],
     values: &mut [i32],
-) -> RecordAnswer
+) -> RayAnswer
     requires { ⌜ AnyDataCut (now file) c ⌝ }
     ensures { λ r. ⌜ r ≡ fromOn (now (file .entry)) ray rec (min (length (now (marks .entry))) (length (now (values .entry)))) c ⌝ }
-    ensures { λ r. ⌜ now (marks .exit) ≡ ifGiven r (marksOf (productIn (now (file .entry)) c) (rayFrom (now (file .entry)) c rec) (now (marks .entry))) (now (marks .entry)) ⌝ }
-    ensures { λ r. ⌜ now (values .exit) ≡ ifGiven r (valuesOf (productIn (now (file .entry)) c) (rayFrom (now (file .entry)) c rec) (now (values .entry))) (now (values .entry)) ⌝ }
+    ensures { λ r. ⌜ now (marks .exit) ≡ ifWritten r (marksOf (productIn (now (file .entry)) c) (rayFrom (now (file .entry)) c rec) (now (marks .entry))) (now (marks .entry)) ⌝ }
+    ensures { λ r. ⌜ now (values .exit) ≡ ifWritten r (valuesOf (productIn (now (file .entry)) c) (rayFrom (now (file .entry)) c rec) (now (values .entry))) (now (values .entry)) ⌝ }
 {
     let nr = sections::rays_in(file, c);
     let nb = sections::bins_in(file, c);
     if nr <= ray {
-        return RecordAnswer::Refused(RecordRefusal::Argument);
+        return RayAnswer::Refused(Refusal {
+            why: Why::Argument,
+            place: 0,
+        });
     }
     if marks.len() < nb {
-        return RecordAnswer::Refused(RecordRefusal::Room);
+        return RayAnswer::Refused(Refusal {
+            why: Why::Room,
+            place: 0,
+        });
     }
     if values.len() < nb {
-        return RecordAnswer::Refused(RecordRefusal::Room);
+        return RayAnswer::Refused(Refusal {
+            why: Why::Room,
+            place: 0,
+        });
     }
     if cuts::readings_from(file, c, rec, marks, values) {
-        return RecordAnswer::Written;
+        return RayAnswer::Written;
     }
-    RecordAnswer::Refused(RecordRefusal::Record(c.section7))
+    RayAnswer::Refused(Refusal {
+        why: Why::Record,
+        place: c.section7,
+    })
 }
 
 // Ray values by a record: Nb marks, and the value at each measured place, of what decoding from there gives.
@@ -198,19 +191,11 @@ pub fn ray_values_from(
     rec: RayRecord,
     marks: &mut [u8],
     values: &mut [i32],
-) -> RecordAnswer
-    ensures { λ r. ⌜ r ≡ fromAnswer (now (file .entry)) i ray rec (min (length (now (marks .entry))) (length (now (values .entry)))) ⌝ }
-    ensures { λ r. ⌜ now (marks .exit) ≡ marksFrom r (now (file .entry)) i rec (now (marks .entry)) ⌝ }
-    ensures { λ r. ⌜ now (values .exit) ≡ valuesFrom r (now (file .entry)) i rec (now (values .entry)) ⌝ }
+) -> RayAnswer
+    ensures { λ r. ⌜ ValuesFromPromise (now (file .entry)) i ray rec (now (marks .entry)) (now (values .entry)) r (now (marks .exit)) (now (values .exit)) ⌝ }
 {
-    match walks::walk_any(file, i) {
-        Walked::Whole(f) => {
-            let c = f.cut;
-            if i < f.cuts {
-                return ray_values_from_on(file, c, ray, rec, marks, values);
-            }
-            RecordAnswer::Refused(RecordRefusal::Argument)
-        }
-        Walked::Rejected(refusal) => RecordAnswer::Refused(RecordRefusal::File(refusal)),
+    match calls::find_any(file, i) {
+        Sought::Cut(c) => ray_values_from_on(file, c, ray, rec, marks, values),
+        Sought::Refused(refusal) => RayAnswer::Refused(refusal),
     }
 }

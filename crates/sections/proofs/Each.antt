@@ -1,28 +1,19 @@
 -- What holds of every cut that is made of sections as a format has them holds of each cut of an accepted file: by going along its cuts with the section 3
 -- last seen.
 use Prim.Native.Nat.{ℕ, zero, suc, _<_}
-use mathlib.Core.Path.{_≡_, refl, subst}
+use mathlib.Core.Path.{_≡_}
 use mathlib.Core.List.{List, _∷_}
 use native.Mathlib.Omega.{arith}
 use native.Mathlib.Nat.{not-suc-le-zero, le-of-suc-le-suc}
 use lib.ListN.{length, getD}
-use Rattle.sections.specs.Checks.{Context, Own}
+use Rattle.sections.specs.Checks.{Own}
+use Rattle.sections.specs.declared.Context.{Context}
 use Rattle.sections.specs.Refused.{AllHold}
-use Rattle.sections.specs.Verdict.{Verdict, accepted, refused, endOf, verdictBy, noCut, answerFor}
+use Rattle.sections.specs.Verdict.{endOf, noCut}
 use Rattle.sections.specs.Accepted.{Kinds, Body, Cuts, none, own, shared, PastZero, AcceptedBy, sectionAt}
 use Rattle.sections.specs.declared.Cut.{Cut}
-use Rattle.sections.specs.declared.Found.{Found}
-use Rattle.sections.specs.declared.Walked.the-variants as W
 use Rattle.sections.proofs.There.{AllThere, Known, there}
 use Rattle.sections.proofs.Own.{Says}
-use Rattle.sections.proofs.Exact.{accepted-only}
-
--- what a caller of a walk learns from an accepting answer
-walked-inv : (i : ℕ) (v : Verdict) (f : Found) → answerFor i v ≡ W.Whole f → (P : Found → Type 0)
-    → ((cs : List Cut) → v ≡ accepted cs → P (record { cuts = length cs; cut = getD cs i noCut })) → P f
-unfolding answerFor
-walked-inv i (accepted cs) f h P k = subst P (cc) (k cs refl)
-walked-inv i (refused r) f h P k = let z : _≡_ {A = ℕ} 0 1 = cc in absurd (omega arith)
 
 -- the checks of a cut's sections hold, by their places
 pub record Checked (o : Own) (s : List ℕ) (x : Context) (s7 : ℕ) : Type 0 where
@@ -73,8 +64,3 @@ module _ (kinds : Kinds) (s : List ℕ) (P : Cut → Type 0) (of-body : OfBodies
 
   pub each-cut : (cs : List Cut) → AcceptedBy kinds s cs → (i : ℕ) → i < length cs → P (getD cs i noCut)
   each-cut cs a i lt = each-past cs (a .past) i lt
-
-  -- of the cut that a walk found
-  pub each-found : (o : Own) (says : Says o kinds) (i : ℕ) (f : Found) → answerFor i (verdictBy o s) ≡ W.Whole f → i < f .cuts → P (f .cut)
-  each-found o says i f h =
-      walked-inv i (verdictBy o s) f h (λ x. i < x .cuts → P (x .cut)) (λ cs e lt. each-cut cs (accepted-only o kinds says s cs e) i lt)

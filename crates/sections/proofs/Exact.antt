@@ -10,15 +10,15 @@ use lib.ListN.{length}
 use lib.Dec.{leb}
 use Rattle.rules.specs.Rules.{meetsAll, rules0}
 use Rattle.rules.proofs.Chains.{and-true-both}
-use Rattle.sections.specs.Refusal.{numberOf, placeOf}
+use Rattle.sections.specs.Refusal.{numberOf, refuse}
 use Rattle.sections.specs.Checks.{Own}
 use Rattle.sections.specs.Verdict.{accepted, refused, sections, endOf, sized, verdictBy}
 use Rattle.sections.specs.History.{cutsOf}
 use Rattle.sections.specs.Accepted.{Kinds, AcceptedBy, PastZero}
 use Rattle.sections.specs.Refused.{RightSize, RefusedBy, size, head, section, RefusedAt, first}
 use Rattle.sections.specs.declared.Cut.{Cut}
-use Rattle.sections.specs.declared.FileRefusal.{FileRefusal}
-use Rattle.sections.specs.declared.FileRefusal.the-variants.{FileSize, Section0}
+use Rattle.sections.specs.declared.Refusal.{Refusal}
+use Rattle.sections.specs.declared.Why.the-variants.{FileSize, Section0}
 use Rattle.sections.specs.Exact.{Exact}
 use Rattle.sections.proofs.Sections.{accepted-same, refused-same, refused-not-accepted, stopped, refuses, through, accepts as sections-accept, count-cuts}
 use Rattle.sections.proofs.Own.{Says}
@@ -43,11 +43,11 @@ module _ (o : Own) (s : List ℕ) where
   unfolding verdictBy
   verdict-sections r h = rw (size-right s r, h)
 
-  pub verdict-head : RightSize s → meetsAll s 0 (rules0 (length s)) ≡ false → verdictBy o s ≡ refused Section0
+  pub verdict-head : RightSize s → meetsAll s 0 (rules0 (length s)) ≡ false → verdictBy o s ≡ refused (refuse Section0 0)
   unfolding verdictBy
   verdict-head r h = rw (size-right s r, h)
 
-  pub verdict-size : sized s ≡ false → verdictBy o s ≡ refused FileSize
+  pub verdict-size : sized s ≡ false → verdictBy o s ≡ refused (refuse FileSize 0)
   unfolding verdictBy
   verdict-size h = rw h
 
@@ -60,13 +60,13 @@ not-right s n = go (sized s) refl
 
 -- ── refused exactly so ──
 
-refused-by : (o : Own) (s : List ℕ) (r : FileRefusal) (t u : Bool) → sized s ≡ t → meetsAll s 0 (rules0 (length s)) ≡ u → verdictBy o s ≡ refused r → RefusedBy o s r
+refused-by : (o : Own) (s : List ℕ) (r : Refusal) (t u : Bool) → sized s ≡ t → meetsAll s 0 (rules0 (length s)) ≡ u → verdictBy o s ≡ refused r → RefusedBy o s r
 refused-by o s r false u p q h =
-    let e : FileSize ≡ r = refused-same FileSize r (sym (verdict-size o s p) ∙ h) in
+    let e : (refuse FileSize 0) ≡ r = refused-same (refuse FileSize 0) r (sym (verdict-size o s p) ∙ h) in
     rw (sym e) (size (λ z. false≢true (sym p ∙ size-right s z)))
 refused-by o s r true false p q h =
     let z = right-size s p in
-    let e : Section0 ≡ r = refused-same Section0 r (sym (verdict-head o s z q) ∙ h) in
+    let e : (refuse Section0 0) ≡ r = refused-same (refuse Section0 0) r (sym (verdict-head o s z q) ∙ h) in
     rw (sym e) (head z q)
 refused-by o s r true true p q h =
     let z = right-size s p in
@@ -74,10 +74,10 @@ refused-by o s r true true p q h =
     let st = stopped o (length s) s (endOf s) [] 16 r (omega arith) (omega arith) (omega arith) (sym (verdict-sections o s z q) ∙ h) in
     section z q (st .passed first) (st .fails)
 
-pub refused-only : (o : Own) (s : List ℕ) (r : FileRefusal) → verdictBy o s ≡ refused r → RefusedBy o s r
+pub refused-only : (o : Own) (s : List ℕ) (r : Refusal) → verdictBy o s ≡ refused r → RefusedBy o s r
 refused-only o s r h = refused-by o s r (sized s) (meetsAll s 0 (rules0 (length s))) refl refl h
 
-pub refused-all : (o : Own) (s : List ℕ) (r : FileRefusal) → RefusedBy o s r → verdictBy o s ≡ refused r
+pub refused-all : (o : Own) (s : List ℕ) (r : Refusal) → RefusedBy o s r → verdictBy o s ≡ refused r
 refused-all o s r (size n) = verdict-size o s (not-right s n)
 refused-all o s r (head z h) = verdict-head o s z h
 refused-all o s r (section {seen = seen} {at = at} z h p fails) =
@@ -85,11 +85,12 @@ refused-all o s r (section {seen = seen} {at = at} z h p fails) =
     verdict-sections o s z h ∙ refuses o s (endOf s) seen at r (omega arith) (omega arith) p fails
 
 -- the same by number and place
-pub refused-at : (o : Own) (s : List ℕ) (r : FileRefusal) → verdictBy o s ≡ refused r → RefusedAt o s (numberOf r) (placeOf r)
-refused-at o s r h = record { refusal = r; refused = refused-only o s r h; number = refl; place = refl }
+pub refused-at : (o : Own) (s : List ℕ) (r : Refusal) → verdictBy o s ≡ refused r → RefusedAt o s (numberOf (r .why)) (r .place)
+unfolding refuse
+refused-at o s r h = record { why = r .why; refused = refused-only o s r h; number = refl }
 
 -- one refusal
-pub refused-one : (o : Own) (s : List ℕ) (q r : FileRefusal) → RefusedBy o s q → RefusedBy o s r → q ≡ r
+pub refused-one : (o : Own) (s : List ℕ) (q r : Refusal) → RefusedBy o s q → RefusedBy o s r → q ≡ r
 refused-one o s q r a b = refused-same q r (sym (refused-all o s q a) ∙ refused-all o s r b)
 
 -- what a format says of its sections, and its checks, which ask just that
@@ -97,8 +98,8 @@ module _ (o : Own) (kinds : Kinds) (says : Says o kinds) where
   -- ── accepted exactly so ──
 
   accepted-by : (s : List ℕ) (cs : List Cut) (t u : Bool) → sized s ≡ t → meetsAll s 0 (rules0 (length s)) ≡ u → verdictBy o s ≡ accepted cs → AcceptedBy kinds s cs
-  accepted-by s cs false u p q h = absurd (refused-not-accepted FileSize cs (sym (verdict-size o s p) ∙ h))
-  accepted-by s cs true false p q h = absurd (refused-not-accepted Section0 cs (sym (verdict-head o s (right-size s p) q) ∙ h))
+  accepted-by s cs false u p q h = absurd (refused-not-accepted (refuse FileSize 0) cs (sym (verdict-size o s p) ∙ h))
+  accepted-by s cs true false p q h = absurd (refused-not-accepted (refuse Section0 0) cs (sym (verdict-head o s (right-size s p) q) ∙ h))
   accepted-by s cs true true p q h =
       let z = right-size s p in
       let t = through o (length s) s (endOf s) [] 16 cs (sym (verdict-sections o s z q) ∙ h) in
@@ -128,7 +129,7 @@ module _ (o : Own) (kinds : Kinds) (says : Says o kinds) where
   accepted-one s cs ds a b = accepted-same cs ds (sym (accepted-all s cs a) ∙ accepted-all s ds b)
 
   -- and never both
-  pub not-both : (s : List ℕ) (cs : List Cut) (r : FileRefusal) → AcceptedBy kinds s cs → RefusedBy o s r → ⊥
+  pub not-both : (s : List ℕ) (cs : List Cut) (r : Refusal) → AcceptedBy kinds s cs → RefusedBy o s r → ⊥
   not-both s cs r a b = refused-not-accepted r cs (sym (refused-all o s r b) ∙ accepted-all s cs a)
 
   pub exact : Exact o kinds

@@ -6,31 +6,33 @@ use mathlib.Core.Bool.{true, false}
 use native.Mathlib.Omega.{arith}
 use borrow.Author.Tests.{eq-eqb, ne-eqb}
 use Rattle.rules.specs.Fields.{numberAt}
-use Rattle.sections.specs.Checks.{Context, Check, check, Own, framed, roomForCut, closes, sectionChecks, checksAt}
+use Rattle.sections.specs.Checks.{Check, check, Own, framed, roomForCut, closes, sectionChecks, checksAt}
+use Rattle.sections.specs.declared.Context.{Context}
 use Rattle.sections.specs.Verdict.{firstFault}
 use Rattle.sections.specs.Refused.{AllHold, FirstFails, this, later}
-use Rattle.sections.specs.declared.FileRefusal.{FileRefusal}
-use Rattle.sections.specs.declared.FileRefusal.the-variants.{Frame, CutCount}
-use Rattle.sections.specs.declared.Judged.the-variants.{Fine, Wrong}
+use Rattle.sections.specs.declared.Refusal.{Refusal}
+use Rattle.sections.specs.Refusal.{refuse}
+use Rattle.sections.specs.declared.Why.the-variants.{Frame, CutCount}
+use Rattle.sections.specs.declared.Judged.the-variants.{Accepted, Refused}
 use Rattle.sections.proofs.Framed.{Framed, framed-is}
 
-pub fine-all : (cs : List Check) → firstFault cs ≡ Fine → AllHold cs
+pub fine-all : (cs : List Check) → firstFault cs ≡ Accepted → AllHold cs
 fine-all [] h = tt
 fine-all (check r true ∷ cs) h = (refl, fine-all cs h)
 fine-all (check r false ∷ cs) h = let z : _≡_ {A = ℕ} 0 1 = cc in absurd (omega arith)
 
-pub all-fine : (cs : List Check) → AllHold cs → firstFault cs ≡ Fine
+pub all-fine : (cs : List Check) → AllHold cs → firstFault cs ≡ Accepted
 all-fine [] h = refl
 all-fine (check r ok ∷ cs) h = rw (h .0) (all-fine cs (h .1))
 
-pub wrong-first : (cs : List Check) (r : FileRefusal) → firstFault cs ≡ Wrong r → FirstFails r cs
+pub wrong-first : (cs : List Check) (r : Refusal) → firstFault cs ≡ Refused r → FirstFails r cs
 wrong-first [] r h = let z : _≡_ {A = ℕ} 0 1 = cc in absurd (omega arith)
 wrong-first (check q true ∷ cs) r h = later refl (wrong-first cs r h)
 wrong-first (check q false ∷ cs) r h =
     let e : q ≡ r = cc in
-    subst (λ (x : FileRefusal). FirstFails x (check q false ∷ cs)) e (this refl)
+    subst (λ (x : Refusal). FirstFails x (check q false ∷ cs)) e (this refl)
 
-pub first-wrong : (cs : List Check) (r : FileRefusal) → FirstFails r cs → firstFault cs ≡ Wrong r
+pub first-wrong : (cs : List Check) (r : Refusal) → FirstFails r cs → firstFault cs ≡ Refused r
 first-wrong cs r (this e) = rw e
 first-wrong cs r (later {cs = ds} e f) = rw e (first-wrong ds r f)
 
@@ -43,11 +45,11 @@ pub record Clean (own : Own) (s : List ℕ) (end : ℕ) (x : Context) (at : ℕ)
 module _ (own : Own) (s : List ℕ) (end : ℕ) (x : Context) (at : ℕ) where
   pub checks-here : (at ≡ end → ⊥)
       → checksAt own s end x at
-      ≡ (check (Frame at) (framed s end x at) ∷ check (CutCount at) (roomForCut s x at) ∷ sectionChecks own s x at (numberAt s at))
+      ≡ (check (refuse Frame at) (framed s end x at) ∷ check (refuse CutCount at) (roomForCut s x at) ∷ sectionChecks own s x at (numberAt s at))
   unfolding checksAt
   checks-here ne = rw (ne-eqb at end ne)
 
-  pub checks-end : at ≡ end → checksAt own s end x at ≡ (check (Frame at) (closes s x at) ∷ [])
+  pub checks-end : at ≡ end → checksAt own s end x at ≡ (check (refuse Frame at) (closes s x at) ∷ [])
   unfolding checksAt
   checks-end e = rw (eq-eqb at end e)
 
@@ -59,5 +61,5 @@ module _ (own : Own) (s : List ℕ) (end : ℕ) (x : Context) (at : ℕ) where
   pub cleaned : (at ≡ end → ⊥) → Clean own s end x at → AllHold (checksAt own s end x at)
   cleaned ne k = rw (checks-here ne) (k .frame, (k .roomy, k .its-own))
 
-  pub fine-framed : (at ≡ end → ⊥) → firstFault (checksAt own s end x at) ≡ Fine → Framed s end x at
+  pub fine-framed : (at ≡ end → ⊥) → firstFault (checksAt own s end x at) ≡ Accepted → Framed s end x at
   fine-framed ne h = framed-is s end x at (clean ne (fine-all (checksAt own s end x at) h) .frame)

@@ -7,7 +7,8 @@ use borrow.Author.Tests.{leb-true, le-leb}
 use lib.Dec.{leb}
 use Rattle.rules.specs.Fields.{lengthAt, numberAt}
 use Rattle.rules.proofs.Chains.{and-true-both}
-use Rattle.sections.specs.Checks.{Context, follows, framed}
+use Rattle.sections.specs.Checks.{follows, framed}
+use Rattle.sections.specs.declared.Context.{Context}
 
 -- five octets or more, ends by `end`, and may stand where it does
 pub record Framed (s : List ℕ) (end : ℕ) (x : Context) (at : ℕ) : Type 0 where

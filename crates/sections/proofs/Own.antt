@@ -7,7 +7,8 @@ use mathlib.Core.Logic.{_↔_}
 use borrow.Author.Tests.{eqb-true, eq-eqb}
 use lib.ListN.{length}
 use Rattle.rules.specs.Fields.{lengthAt, numberAt}
-use Rattle.sections.specs.Checks.{Context, Own, sectionChecks}
+use Rattle.sections.specs.Checks.{Own, sectionChecks}
+use Rattle.sections.specs.declared.Context.{Context}
 use Rattle.sections.specs.Accepted.{Kinds, Section, Section1, Section6, sectionAt}
 use Rattle.sections.specs.Refused.{AllHold}
 use Rattle.sections.proofs.Framed.{Framed}

@@ -11,13 +11,14 @@ use lib.Dec.{eqb}
 use Rattle.rules.specs.Fields.{lengthAt}
 use Rattle.sections.specs.Checks.{Own, checksAt}
 use Rattle.sections.specs.History.{Seen, seenAt, lastSeen, cutsSeen, contextOf, cutsOf}
-use Rattle.sections.specs.Verdict.{accepted, refused, firstFault, unlessWrong, sections}
+use Rattle.sections.specs.Verdict.{accepted, refused, firstFault, ifAccepted, sections}
 use Rattle.sections.specs.Refused.{AllHold, FirstFails, Passed, first, then}
 use Rattle.sections.specs.declared.Cut.{Cut}
-use Rattle.sections.specs.declared.FileRefusal.{FileRefusal}
-use Rattle.sections.specs.declared.FileRefusal.the-variants.{Frame}
+use Rattle.sections.specs.declared.Refusal.{Refusal}
+use Rattle.sections.specs.Refusal.{refuse}
+use Rattle.sections.specs.declared.Why.the-variants.{Frame}
 use Rattle.sections.specs.declared.Judged.{Judged}
-use Rattle.sections.specs.declared.Judged.the-variants.{Fine, Wrong}
+use Rattle.sections.specs.declared.Judged.the-variants.{Accepted, Refused}
 use Rattle.sections.proofs.Framed.{Framed}
 use Rattle.sections.proofs.Faults.{fine-all, all-fine, wrong-first, first-wrong, fine-framed}
 
@@ -26,31 +27,31 @@ abbrev pub judgedAt : Own → List ℕ → ℕ → List Seen → ℕ → Judged
 judgedAt own s end seen at = firstFault (checksAt own s end (contextOf seen at) at)
 
 module _ (own : Own) (f : ℕ) (s : List ℕ) (end : ℕ) (seen : List Seen) (at : ℕ) where
-  pub sections-refused : (r : FileRefusal) → judgedAt own s end seen at ≡ Wrong r → sections own (suc f) s end seen at ≡ refused r
+  pub sections-refused : (r : Refusal) → judgedAt own s end seen at ≡ Refused r → sections own (suc f) s end seen at ≡ refused r
   unfolding sections
   sections-refused r h =
       ap
-      (λ (j : Judged). unlessWrong j (cond (eqb at end) (accepted (cutsOf seen)) (sections own f s end (seenAt s at ∷ seen) (at + lengthAt s at))))
+      (λ (j : Judged). ifAccepted j (cond (eqb at end) (accepted (cutsOf seen)) (sections own f s end (seenAt s at ∷ seen) (at + lengthAt s at))))
       h
 
-  pub sections-done : judgedAt own s end seen at ≡ Fine → at ≡ end → sections own (suc f) s end seen at ≡ accepted (cutsOf seen)
+  pub sections-done : judgedAt own s end seen at ≡ Accepted → at ≡ end → sections own (suc f) s end seen at ≡ accepted (cutsOf seen)
   unfolding sections
   sections-done h e =
       ap
-      (λ (j : Judged). unlessWrong j (cond (eqb at end) (accepted (cutsOf seen)) (sections own f s end (seenAt s at ∷ seen) (at + lengthAt s at))))
+      (λ (j : Judged). ifAccepted j (cond (eqb at end) (accepted (cutsOf seen)) (sections own f s end (seenAt s at ∷ seen) (at + lengthAt s at))))
       h
       ∙ rw (eq-eqb at end e)
 
-  pub sections-next : judgedAt own s end seen at ≡ Fine → (at ≡ end → ⊥)
+  pub sections-next : judgedAt own s end seen at ≡ Accepted → (at ≡ end → ⊥)
       → sections own (suc f) s end seen at ≡ sections own f s end (seenAt s at ∷ seen) (at + lengthAt s at)
   unfolding sections
   sections-next h ne =
       ap
-      (λ (j : Judged). unlessWrong j (cond (eqb at end) (accepted (cutsOf seen)) (sections own f s end (seenAt s at ∷ seen) (at + lengthAt s at))))
+      (λ (j : Judged). ifAccepted j (cond (eqb at end) (accepted (cutsOf seen)) (sections own f s end (seenAt s at ∷ seen) (at + lengthAt s at))))
       h
       ∙ rw (ne-eqb at end ne)
 
-pub no-fuel : (own : Own) (s : List ℕ) (end : ℕ) (seen : List Seen) (at : ℕ) → sections own zero s end seen at ≡ refused (Frame at)
+pub no-fuel : (own : Own) (s : List ℕ) (end : ℕ) (seen : List Seen) (at : ℕ) → sections own zero s end seen at ≡ refused (refuse Frame at)
 unfolding sections
 no-fuel own s end seen at = refl
 
@@ -69,19 +70,19 @@ pub record Through (own : Own) (s : List ℕ) (end : ℕ) (seen : List Seen) (at
   pub cuts : cs ≡ cutsOf all
 
 -- one of them is refused, at a place up to which all pass
-pub record Stopped (own : Own) (s : List ℕ) (end : ℕ) (seen : List Seen) (at : ℕ) (r : FileRefusal) : Type 0 where
+pub record Stopped (own : Own) (s : List ℕ) (end : ℕ) (seen : List Seen) (at : ℕ) (r : Refusal) : Type 0 where
   pub before : List Seen
   pub place : ℕ
   pub passed : Passed own s end seen at → Passed own s end before place
   pub fails : FirstFails r (checksAt own s end (contextOf before place) place)
 
-pub refused-not-accepted : (r : FileRefusal) (cs : List Cut) → refused r ≡ accepted cs → ⊥
+pub refused-not-accepted : (r : Refusal) (cs : List Cut) → refused r ≡ accepted cs → ⊥
 refused-not-accepted r cs h = let z : _≡_ {A = ℕ} 0 1 = cc in omega arith
 
 pub accepted-same : (cs ds : List Cut) → accepted cs ≡ accepted ds → cs ≡ ds
 accepted-same cs ds h = cc
 
-pub refused-same : (q r : FileRefusal) → refused q ≡ refused r → q ≡ r
+pub refused-same : (q r : Refusal) → refused q ≡ refused r → q ≡ r
 refused-same q r h = cc
 
 -- ── accepted: the sections from here on all pass ──
@@ -90,22 +91,22 @@ through-by : (own : Own) (f : ℕ) (s : List ℕ) (end : ℕ) (seen : List Seen)
     → (sections own f s end (seenAt s at ∷ seen) (at + lengthAt s at) ≡ accepted cs → Through own s end (seenAt s at ∷ seen) (at + lengthAt s at) cs)
     → (j : Judged) (t : Bool) → judgedAt own s end seen at ≡ j → eqb at end ≡ t
     → sections own (suc f) s end seen at ≡ accepted cs → Through own s end seen at cs
-through-by own f s end seen at cs go (Wrong r) t e p h =
+through-by own f s end seen at cs go (Refused r) t e p h =
     absurd (refused-not-accepted r cs (sym (sections-refused own f s end seen at r e) ∙ h))
-through-by own f s end seen at cs go Fine true e p h =
+through-by own f s end seen at cs go Accepted true e p h =
     let there : at ≡ end = eqb-true _ _ p in
     record {
       all = seen;
       rest = stop there (fine-all (checksAt own s end (contextOf seen at) at) e);
       cuts = sym (accepted-same (cutsOf seen) cs (sym (sections-done own f s end seen at e there) ∙ h));
     }
-through-by own f s end seen at cs go Fine false e p h =
+through-by own f s end seen at cs go Accepted false e p h =
     let ne : at ≡ end → ⊥ = eqb-false _ _ p in
     let t = go (sym (sections-next own f s end seen at e ne) ∙ h) in
     record { all = t .all; rest = step ne (fine-all (checksAt own s end (contextOf seen at) at) e) (t .rest); cuts = t .cuts }
 
 pub through : (own : Own) (f : ℕ) (s : List ℕ) (end : ℕ) (seen : List Seen) (at : ℕ) (cs : List Cut) → sections own f s end seen at ≡ accepted cs → Through own s end seen at cs
-through own zero s end seen at cs h = absurd (refused-not-accepted (Frame at) cs (sym (no-fuel own s end seen at) ∙ h))
+through own zero s end seen at cs h = absurd (refused-not-accepted (refuse Frame at) cs (sym (no-fuel own s end seen at) ∙ h))
 through own (suc f) s end seen at cs h =
     through-by own f s end seen at cs (through own f s end (seenAt s at ∷ seen) (at + lengthAt s at) cs) (judgedAt own s end seen at) (eqb at end) refl refl h
 
@@ -126,22 +127,22 @@ accepts own s end seen at all (suc f) (step ne h r) le in-s few =
 
 -- ── refused: one of them is the first that fails ──
 
-stopped-by : (own : Own) (f : ℕ) (s : List ℕ) (end : ℕ) (seen : List Seen) (at : ℕ) (r : FileRefusal)
+stopped-by : (own : Own) (f : ℕ) (s : List ℕ) (end : ℕ) (seen : List Seen) (at : ℕ) (r : Refusal)
     → (Framed s end (contextOf seen at) at → sections own f s end (seenAt s at ∷ seen) (at + lengthAt s at) ≡ refused r
     → Stopped own s end (seenAt s at ∷ seen) (at + lengthAt s at) r)
     → (j : Judged) (t : Bool) → judgedAt own s end seen at ≡ j → eqb at end ≡ t
     → sections own (suc f) s end seen at ≡ refused r → Stopped own s end seen at r
-stopped-by own f s end seen at r go (Wrong q) t e p h =
+stopped-by own f s end seen at r go (Refused q) t e p h =
     let same : q ≡ r = refused-same q r (sym (sections-refused own f s end seen at q e) ∙ h) in
     record {
       before = seen;
       place = at;
       passed = λ x. x;
-      fails = wrong-first (checksAt own s end (contextOf seen at) at) r (e ∙ ap Wrong same);
+      fails = wrong-first (checksAt own s end (contextOf seen at) at) r (e ∙ ap Refused same);
     }
-stopped-by own f s end seen at r go Fine true e p h =
+stopped-by own f s end seen at r go Accepted true e p h =
     absurd (refused-not-accepted r (cutsOf seen) (sym h ∙ sections-done own f s end seen at e (eqb-true _ _ p)))
-stopped-by own f s end seen at r go Fine false e p h =
+stopped-by own f s end seen at r go Accepted false e p h =
     let ne : at ≡ end → ⊥ = eqb-false _ _ p in
     let st = go (fine-framed own s end (contextOf seen at) at ne e) (sym (sections-next own f s end seen at e ne) ∙ h) in
     record {
@@ -151,7 +152,7 @@ stopped-by own f s end seen at r go Fine false e p h =
       fails = st .fails;
     }
 
-pub stopped : (own : Own) (f : ℕ) (s : List ℕ) (end : ℕ) (seen : List Seen) (at : ℕ) (r : FileRefusal) → at ≤ end → end ≤ length s → length s < at + f
+pub stopped : (own : Own) (f : ℕ) (s : List ℕ) (end : ℕ) (seen : List Seen) (at : ℕ) (r : Refusal) → at ≤ end → end ≤ length s → length s < at + f
     → sections own f s end seen at ≡ refused r → Stopped own s end seen at r
 stopped own zero s end seen at r le in-s few h = absurd (omega arith)
 stopped own (suc f) s end seen at r le in-s few h =
@@ -184,12 +185,12 @@ reached own s end seen at h in-s (then {seen = old} {at = a} p ne ok) =
     let r = reached own s end old a h in-s p in
     reached-on own s end old a (r .fuel) ne ok (r .inside) in-s (r .enough) (r .same)
 
-refuses-by : (own : Own) (s : List ℕ) (end : ℕ) (seen : List Seen) (at : ℕ) (r : FileRefusal) (f : ℕ) → at ≤ end → end ≤ length s → length s < at + f
-    → judgedAt own s end seen at ≡ Wrong r → sections own f s end seen at ≡ refused r
+refuses-by : (own : Own) (s : List ℕ) (end : ℕ) (seen : List Seen) (at : ℕ) (r : Refusal) (f : ℕ) → at ≤ end → end ≤ length s → length s < at + f
+    → judgedAt own s end seen at ≡ Refused r → sections own f s end seen at ≡ refused r
 refuses-by own s end seen at r zero le in-s few h = absurd (omega arith)
 refuses-by own s end seen at r (suc f) le in-s few h = sections-refused own f s end seen at r h
 
-pub refuses : (own : Own) (s : List ℕ) (end : ℕ) (seen : List Seen) (at : ℕ) (r : FileRefusal) → 16 ≤ end → end ≤ length s → Passed own s end seen at
+pub refuses : (own : Own) (s : List ℕ) (end : ℕ) (seen : List Seen) (at : ℕ) (r : Refusal) → 16 ≤ end → end ≤ length s → Passed own s end seen at
     → FirstFails r (checksAt own s end (contextOf seen at) at) → sections own (length s) s end [] 16 ≡ refused r
 refuses own s end seen at r h in-s p fails =
     let x = reached own s end seen at h in-s p in

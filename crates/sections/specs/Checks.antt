@@ -6,21 +6,10 @@ use mathlib.Core.Bool.{Bool, cond, _&&_, _||_, not}
 use lib.Dec.{leb, eqb}
 use Rattle.rules.specs.Rules.{meetsAll, rules1, rules6, rules8}
 use Rattle.rules.specs.Fields.{lengthAt, numberAt}
-use Rattle.sections.specs.declared.FileRefusal.{FileRefusal}
-use Rattle.sections.specs.declared.FileRefusal.the-variants.{Frame, Length, Field, CutCount}
-
--- what the checks of a section ask of the sections before it
-pub record Context : Type 0 where
-  -- the number of the section before
-  pub previous : ℕ
-  -- the number of cuts before: sections 7
-  pub cuts : ℕ
-  -- the place of the first cut's section 4, where the section is a 4 or comes after one
-  pub first : ℕ
-  -- the places of the sections 3, 4 and 5 last seen
-  pub section3 : ℕ
-  pub section4 : ℕ
-  pub section5 : ℕ
+use Rattle.sections.specs.declared.Context.{Context}
+use Rattle.sections.specs.declared.Refusal.{Refusal}
+use Rattle.sections.specs.Refusal.{refuse}
+use Rattle.sections.specs.declared.Why.the-variants.{Frame, SectionLength, Field, CutCount}
 
 -- the order of sections: 0 1, then cuts of 3 4 5 6 7, or 4 5 6 7 after the first
 unfoldable pub follows : ℕ → ℕ → Bool
@@ -44,15 +33,15 @@ roomForCut s x at = not (leb 64 (x .cuts) && (eqb (numberAt s at) 3 || eqb (numb
 
 -- a check: the refusal where it fails, and what must hold
 pub data Check : Type 0 where
-  check : FileRefusal → Bool → Check
+  check : Refusal → Bool → Check
 
 -- the sections that every format has: 1 and 6
 
 abbrev pub checks1 : List ℕ → ℕ → List Check
-checks1 s at = check (Length at) (eqb (lengthAt s at) 21) ∷ check (Field at) (meetsAll s at rules1) ∷ []
+checks1 s at = check (refuse SectionLength at) (eqb (lengthAt s at) 21) ∷ check (refuse Field at) (meetsAll s at rules1) ∷ []
 
 abbrev pub checks6 : List ℕ → ℕ → List Check
-checks6 s at = check (Length at) (eqb (lengthAt s at) 6) ∷ check (Field at) (meetsAll s at rules6) ∷ []
+checks6 s at = check (refuse SectionLength at) (eqb (lengthAt s at) 6) ∷ check (refuse Field at) (meetsAll s at rules6) ∷ []
 
 -- a format's own: the checks of its sections 3, 4, 5 and 7, by the section's number
 abbrev pub Own : Type 0
@@ -71,5 +60,5 @@ closes s x at = eqb (x .previous) 7 && meetsAll s at rules8
 unfoldable pub checksAt : Own → List ℕ → ℕ → Context → ℕ → List Check
 checksAt own s end x at =
     cond (eqb at end)
-    (check (Frame at) (closes s x at) ∷ [])
-    (check (Frame at) (framed s end x at) ∷ check (CutCount at) (roomForCut s x at) ∷ sectionChecks own s x at (numberAt s at))
+    (check (refuse Frame at) (closes s x at) ∷ [])
+    (check (refuse Frame at) (framed s end x at) ∷ check (refuse CutCount at) (roomForCut s x at) ∷ sectionChecks own s x at (numberAt s at))

@@ -4,7 +4,7 @@ use mathlib.Core.List.{List, [], _∷_, _++_}
 use mathlib.Core.Bool.{cond}
 use lib.Dec.{eqb}
 use Rattle.rules.specs.Fields.{numberAt}
-use Rattle.sections.specs.Checks.{Context}
+use Rattle.sections.specs.declared.Context.{Context}
 use Rattle.sections.specs.declared.Cut.{Cut}
 
 -- a section that was passed

@@ -5,5 +5,4 @@ pub mod History
 pub mod Verdict
 pub mod Accepted
 pub mod Refused
-pub mod Places
 pub mod Exact

@@ -7,12 +7,13 @@ use mathlib.Core.Bool.{Bool, true, false}
 use lib.ListN.{length}
 use Rattle.rules.specs.Rules.{meetsAll, rules0}
 use Rattle.rules.specs.Fields.{lengthAt}
-use Rattle.sections.specs.Refusal.{numberOf, placeOf}
+use Rattle.sections.specs.Refusal.{numberOf, refuse}
 use Rattle.sections.specs.Checks.{Check, check, Own, checksAt}
 use Rattle.sections.specs.History.{Seen, seenAt, contextOf}
 use Rattle.sections.specs.Verdict.{endOf}
-use Rattle.sections.specs.declared.FileRefusal.{FileRefusal}
-use Rattle.sections.specs.declared.FileRefusal.the-variants.{FileSize, Section0}
+use Rattle.sections.specs.declared.Refusal.{Refusal}
+use Rattle.sections.specs.declared.Why.{Why}
+use Rattle.sections.specs.declared.Why.the-variants.{FileSize, Section0}
 
 -- every check holds
 abbrev pub AllHold : List Check → Type 0
@@ -20,9 +21,9 @@ AllHold [] = Unit {0}
 AllHold (check r ok ∷ cs) = (ok ≡ true) × AllHold cs
 
 -- of these checks, that of refusal r is the first that fails
-pub data FirstFails (r : FileRefusal) : List Check → Type 0 where
+pub data FirstFails (r : Refusal) : List Check → Type 0 where
   this : {ok : Bool} {cs : List Check} → ok ≡ false → FirstFails r (check r ok ∷ cs)
-  later : {q : FileRefusal} {ok : Bool} {cs : List Check} → ok ≡ true → FirstFails r cs → FirstFails r (check q ok ∷ cs)
+  later : {q : Refusal} {ok : Bool} {cs : List Check} → ok ≡ true → FirstFails r cs → FirstFails r (check q ok ∷ cs)
 
 -- the sections before a place, from the end of section 0 on, pass; `seen` are these sections
 pub data Passed (own : Own) (s : List ℕ) (end : ℕ) : List Seen → ℕ → Type 0 where
@@ -37,16 +38,15 @@ pub record RightSize (s : List ℕ) : Type 0 where
   pub large : length s ≤ 8388608
 
 -- 1; or 2; or the sections before a place pass, and of the checks there, in the document's order, one is the first that fails
-pub data RefusedBy (own : Own) (s : List ℕ) : FileRefusal → Type 0 where
-  size : (RightSize s → ⊥) → RefusedBy own s FileSize
-  head : RightSize s → meetsAll s 0 (rules0 (length s)) ≡ false → RefusedBy own s Section0
-  section : {seen : List Seen} {at : ℕ} {r : FileRefusal}
+pub data RefusedBy (own : Own) (s : List ℕ) : Refusal → Type 0 where
+  size : (RightSize s → ⊥) → RefusedBy own s (refuse FileSize 0)
+  head : RightSize s → meetsAll s 0 (rules0 (length s)) ≡ false → RefusedBy own s (refuse Section0 0)
+  section : {seen : List Seen} {at : ℕ} {r : Refusal}
       → RightSize s → meetsAll s 0 (rules0 (length s)) ≡ true
       → Passed own s (endOf s) seen at → FirstFails r (checksAt own s (endOf s) (contextOf seen at) at) → RefusedBy own s r
 
 -- the same by number and place
 pub record RefusedAt (own : Own) (s : List ℕ) (n p : ℕ) : Type 0 where
-  pub refusal : FileRefusal
-  pub refused : RefusedBy own s refusal
-  pub number : numberOf refusal ≡ n
-  pub place : placeOf refusal ≡ p
+  pub why : Why
+  pub refused : RefusedBy own s (refuse why p)
+  pub number : numberOf why ≡ n

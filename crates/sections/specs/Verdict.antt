@@ -9,34 +9,32 @@ use Rattle.rules.specs.Fields.{lengthAt}
 use Rattle.sections.specs.Checks.{Check, check, Own, checksAt}
 use Rattle.sections.specs.History.{Seen, seenAt, contextOf, cutsOf}
 use Rattle.sections.specs.declared.Cut.{Cut}
-use Rattle.sections.specs.declared.FileRefusal.{FileRefusal}
-use Rattle.sections.specs.declared.FileRefusal.the-variants.{FileSize, Section0, Frame}
+use Rattle.sections.specs.declared.Refusal.{Refusal}
+use Rattle.sections.specs.Refusal.{refuse}
+use Rattle.sections.specs.declared.Why.the-variants.{FileSize, Section0, Frame}
 use Rattle.sections.specs.declared.Judged.{Judged}
-use Rattle.sections.specs.declared.Judged.the-variants.{Fine, Wrong}
-use Rattle.sections.specs.declared.Found.{Found}
-use Rattle.sections.specs.declared.Walked.{Walked}
-use Rattle.sections.specs.declared.Walked.the-variants.{Whole, Rejected}
+use Rattle.sections.specs.declared.Judged.the-variants.{Accepted, Refused}
 
 -- accepted, with the cuts, by the places of their sections; or refused
 pub data Verdict : Type 0 where
   accepted : List Cut → Verdict
-  refused : FileRefusal → Verdict
+  refused : Refusal → Verdict
 
 -- the first check that fails
 abbrev pub firstFault : List Check → Judged
-firstFault [] = Fine
-firstFault (check r ok ∷ cs) = cond ok (firstFault cs) (Wrong r)
+firstFault [] = Accepted
+firstFault (check r ok ∷ cs) = cond ok (firstFault cs) (Refused r)
 
-abbrev pub unlessWrong : Judged → Verdict → Verdict
-unlessWrong Fine v = v
-unlessWrong (Wrong r) v = refused r
+abbrev pub ifAccepted : Judged → Verdict → Verdict
+ifAccepted Accepted v = v
+ifAccepted (Refused r) v = refused r
 
 -- section after section up to `end`, the place of the last four octets, from a place on. A file has fewer sections than octets: the first argument
 -- is never used up
 unfoldable pub sections : Own → ℕ → List ℕ → ℕ → List Seen → ℕ → Verdict
-sections own zero s end seen at = refused (Frame at)
+sections own zero s end seen at = refused (refuse Frame at)
 sections own (suc n) s end seen at =
-    unlessWrong (firstFault (checksAt own s end (contextOf seen at) at))
+    ifAccepted (firstFault (checksAt own s end (contextOf seen at) at))
     (cond (eqb at end) (accepted (cutsOf seen)) (sections own n s end (seenAt s at ∷ seen) (at + lengthAt s at)))
 
 -- the place of the last four octets
@@ -50,13 +48,8 @@ sized s = leb 20 (length s) && leb (length s) 8388608
 unfoldable pub verdictBy : Own → List ℕ → Verdict
 verdictBy own s =
     cond (sized s)
-    (cond (meetsAll s 0 (rules0 (length s))) (sections own (length s) s (endOf s) [] 16) (refused Section0))
-    (refused FileSize)
+    (cond (meetsAll s 0 (rules0 (length s))) (sections own (length s) s (endOf s) [] 16) (refused (refuse Section0 0)))
+    (refused (refuse FileSize 0))
 
 abbrev pub noCut : Cut
 noCut = record { section3 = 0; section4 = 0; section5 = 0; section7 = 0 }
-
--- what the walk answers: the number of cuts and the places of cut `want` (zeros where there is no such cut)
-unfoldable pub answerFor : ℕ → Verdict → Walked
-answerFor want (accepted cs) = Whole (record { cuts = length cs; cut = getD cs want noCut })
-answerFor want (refused r) = Rejected r

@@ -7,35 +7,49 @@
 ghost use mathlib.Core.Path.{_≡_};
 ghost use mathlib.Core.Bool.{cond};
 ghost use Prim.Native.Nat.{_+_};
+ghost use lib.Dec.{leb};
 ghost use Rattle.rules.specs.Fields.{lengthAt};
-ghost use Rattle.sections.specs.Refusal.{numberOf, placeOf};
+ghost use Rattle.sections.specs.Refusal.{numberOf, refuse};
 ghost use Rattle.sections.specs.Parts.{binsIn, raysIn, timeOf, gridAt};
-ghost use Rattle.sections.specs.Places.{firstIn};
+ghost use Rattle.sections.specs.Checks.{follows, framed, roomForCut, closes, checks1, checks6};
+ghost use Rattle.sections.specs.Verdict.{firstFault};
 
-// Why a file is refused, one case for each of document 01's numbers and for wish 6's, with the place of the section concerned: specs/Refusal.antt.
-pub enum FileRefusal {
+// Why a call on a file is refused: one case for each number of specs/Refusal.antt.
+pub enum Why {
     // 1: the lent file is under 20 or over 8,388,608 octets
     FileSize,
     // 2: section 0 is not as it should be
     Section0,
     // 3: no section of a right length and number stands there, or no `7777` after a 7
-    Frame(usize),
+    Frame,
     // 4: the section's own length
-    Length(usize),
+    SectionLength,
     // 5: a named field
-    Field(usize),
+    Field,
     // 6: a point count
-    Points(usize),
+    Points,
     // 7: the value table
-    Table(usize),
+    Table,
     // 8: the data does not give exactly the bins
-    Bins(usize),
+    Data,
     // 9: a 65th cut
-    CutCount(usize),
+    CutCount,
+    // 10: an argument outside its range
+    Argument,
+    // 11: lent room too short
+    Room,
     // 12: V over 253, by which runs have no base
-    BaseOfRuns(usize),
+    V,
+    // 13: a record by which no ray can be read (wish 4)
+    Record,
     // 14: a packing or a scan mode that is not read (wish 6)
-    Unread(usize),
+    Unread,
+}
+
+// A refusal: why, and the start of the section concerned, 0 where none is.
+pub struct Refusal {
+    pub why: Why,
+    pub place: usize,
 }
 
 // The places of a cut's sections.
@@ -66,67 +80,44 @@ pub struct Grid {
     pub dstart: u32,
 }
 
-// An accepted file: how many cuts it has, and the one that was asked for.
-pub struct Found {
-    pub cuts: usize,
-    pub cut: Cut,
-}
-
-pub enum Walked {
-    Whole(Found),
-    Rejected(FileRefusal),
-}
-
 // What the checks of a section come to.
 pub enum Judged {
-    Fine,
-    Wrong(FileRefusal),
+    Accepted,
+    Refused(Refusal),
 }
 
-// Where the walk stands, with the number of the section before, the cuts ended and the places of the sections that later checks go by.
-pub struct State {
-    pub at: usize,
+// What the checks of a section ask of the sections before it.
+pub struct Context {
+    // the number of the section before
     pub previous: u8,
+    // the number of cuts before: sections 7
     pub cuts: usize,
+    // the place of the first cut's section 4, where the section is a 4 or comes after one
     pub first: usize,
+    // the places of the sections 3, 4 and 5 last seen
     pub section3: usize,
     pub section4: usize,
     pub section5: usize,
 }
 
-pub fn number_of(refusal: FileRefusal) -> u32
-    ensures { λ r. ⌜ r ≡ numberOf refusal ⌝ }
+pub fn number_of(why: Why) -> u32
+    ensures { λ r. ⌜ r ≡ numberOf why ⌝ }
 {
-    match refusal {
-        FileRefusal::FileSize => 1,
-        FileRefusal::Section0 => 2,
-        FileRefusal::Frame(_) => 3,
-        FileRefusal::Length(_) => 4,
-        FileRefusal::Field(_) => 5,
-        FileRefusal::Points(_) => 6,
-        FileRefusal::Table(_) => 7,
-        FileRefusal::Bins(_) => 8,
-        FileRefusal::CutCount(_) => 9,
-        FileRefusal::BaseOfRuns(_) => 12,
-        FileRefusal::Unread(_) => 14,
-    }
-}
-
-pub fn place_of(refusal: FileRefusal) -> usize
-    ensures { λ r. ⌜ r ≡ placeOf refusal ⌝ }
-{
-    match refusal {
-        FileRefusal::FileSize => 0,
-        FileRefusal::Section0 => 0,
-        FileRefusal::Frame(at) => at,
-        FileRefusal::Length(at) => at,
-        FileRefusal::Field(at) => at,
-        FileRefusal::Points(at) => at,
-        FileRefusal::Table(at) => at,
-        FileRefusal::Bins(at) => at,
-        FileRefusal::CutCount(at) => at,
-        FileRefusal::BaseOfRuns(at) => at,
-        FileRefusal::Unread(at) => at,
+    match why {
+        Why::FileSize => 1,
+        Why::Section0 => 2,
+        Why::Frame => 3,
+        Why::SectionLength => 4,
+        Why::Field => 5,
+        Why::Points => 6,
+        Why::Table => 7,
+        Why::Data => 8,
+        Why::CutCount => 9,
+        Why::Argument => 10,
+        Why::Room => 11,
+        Why::V => 12,
+        Why::Record => 13,
+        Why::Unread => 14,
     }
 }
 
@@ -142,17 +133,29 @@ pub fn pick(b: bool, x: usize, y: usize) -> usize
     if b { x } else { y }
 }
 
-// The first check that fails: this one, or what the later ones came to.
-pub fn unless(ok: bool, wrong: FileRefusal, later: Judged) -> Judged
-    ensures { λ r. ⌜ r ≡ cond ok later (Judged.Wrong wrong) ⌝ }
+pub fn refuse(why: Why, place: usize) -> Refusal
+    ensures { λ r. ⌜ r ≡ refuse why place ⌝ }
 {
-    if ok { later } else { Judged::Wrong(wrong) }
+    Refusal { why, place }
 }
 
-pub fn fine() -> Judged
-    ensures { λ r. ⌜ r ≡ Judged.Fine ⌝ }
+pub fn refused(why: Why, place: usize) -> Judged
+    ensures { λ r. ⌜ r ≡ Judged.Refused (refuse why place) ⌝ }
 {
-    Judged::Fine
+    Judged::Refused(refuse(why, place))
+}
+
+// The first check that fails: this one, or what the later ones came to.
+pub fn check(ok: bool, why: Why, place: usize, later: Judged) -> Judged
+    ensures { λ r. ⌜ r ≡ cond ok later (Judged.Refused (refuse why place)) ⌝ }
+{
+    if ok { later } else { refused(why, place) }
+}
+
+pub fn accepted() -> Judged
+    ensures { λ r. ⌜ r ≡ Judged.Accepted ⌝ }
+{
+    Judged::Accepted
 }
 
 // The place past the section at a place. Past the file a length reads as 0.
@@ -164,13 +167,6 @@ pub fn end_at(s: &[u8], at: usize) -> usize
     } else {
         at
     }
-}
-
-// The place of the first cut's section 4, which is its own first.
-pub fn first_in(st: State) -> usize
-    ensures { λ r. ⌜ r ≡ firstIn st ⌝ }
-{
-    pick(st.first == 0, st.at, st.first)
 }
 
 // ---- what every format says alike
@@ -224,4 +220,68 @@ pub fn grid_at(s: &[u8], at: usize) -> Grid
         dx,
         dstart,
     }
+}
+
+// ---- the checks that every format has
+
+// Whether n octets from `at` on end at `end` or before.
+fn ends_by(at: usize, n: usize, end: usize) -> bool
+    ensures { λ r. ⌜ r ≡ leb (at + n) end ⌝ }
+{
+    if end < at { false } else { n <= end - at }
+}
+
+// The order of sections.
+fn may_follow(p: u8, n: u8) -> bool
+    ensures { λ r. ⌜ r ≡ follows p n ⌝ }
+{
+    ((p == 0) & (n == 1))
+        | ((p == 1) & (n == 3))
+        | ((p == 3) & (n == 4))
+        | ((p == 4) & (n == 5))
+        | ((p == 5) & (n == 6))
+        | ((p == 6) & (n == 7))
+        | ((p == 7) & ((n == 3) | (n == 4)))
+}
+
+pub fn is_framed(s: &[u8], end: usize, x: Context, at: usize) -> bool
+    ensures { λ r. ⌜ r ≡ framed (now (s .entry)) end x at ⌝ }
+{
+    let len = place(rules::field32(s, at, 1));
+    let n = rules::field8(s, at, 5);
+    ends_by(at, 5, end) & ((5 <= len) & (ends_by(at, len, end) & may_follow(x.previous, n)))
+}
+
+pub fn has_room(s: &[u8], x: Context, at: usize) -> bool
+    ensures { λ r. ⌜ r ≡ roomForCut (now (s .entry)) x at ⌝ }
+{
+    let n = rules::field8(s, at, 5);
+    !((64 <= x.cuts) & ((n == 3) | (n == 4)))
+}
+
+// Whether `7777` stands at the cursor, after a 7.
+pub fn is_closed(s: &[u8], x: Context, at: usize) -> bool
+    ensures { λ r. ⌜ r ≡ closes (now (s .entry)) x at ⌝ }
+{
+    (x.previous == 7) & rules::fields8(s, at)
+}
+
+// The sections that every format has.
+
+pub fn judge1(s: &[u8], at: usize) -> Judged
+    ensures { λ r. ⌜ r ≡ firstFault (checks1 (now (s .entry)) at) ⌝ }
+{
+    let len = rules::field32(s, at, 1);
+    let fields1 = rules::fields1(s, at);
+    let past = check(fields1, Why::Field, at, accepted());
+    check(len == 21, Why::SectionLength, at, past)
+}
+
+pub fn judge6(s: &[u8], at: usize) -> Judged
+    ensures { λ r. ⌜ r ≡ firstFault (checks6 (now (s .entry)) at) ⌝ }
+{
+    let len = rules::field32(s, at, 1);
+    let fields6 = rules::fields6(s, at);
+    let past = check(fields6, Why::Field, at, accepted());
+    check(len == 6, Why::SectionLength, at, past)
 }

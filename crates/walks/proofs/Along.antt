@@ -9,19 +9,21 @@ use lib.ListN.{length, getD, length-append, List·getD-append, List·getD-eq-def
 use lib.Seq.{getD-at}
 use lib.Dec.{ltb, eqb}
 use Rattle.rules.specs.Fields.{lengthAt, numberAt, pointsAt}
-use Rattle.sections.specs.Checks.{Context, Own, checksAt, sectionChecks}
+use Rattle.sections.specs.Checks.{Own, checksAt, sectionChecks}
+use Rattle.sections.specs.declared.Context.{Context}
 use Rattle.sections.specs.History.{Seen, seenAt, previous, lastSeen, firstSeen, cutsOf, cutsSeen, contextOf}
-use Rattle.sections.specs.Verdict.{accepted, refused, firstFault, sections, noCut, answerFor}
-use Rattle.sections.specs.Places.{contextIn}
+use Rattle.sections.specs.Verdict.{accepted, refused, firstFault, sections, noCut}
+use Rattle.walks.specs.Answer.{answerFor}
+use Rattle.walks.specs.Places.{contextIn}
 use Rattle.walks.specs.Walk.{past, cutEnded, chosenAfter, Sound, stepFrom, stepOf}
 use Rattle.sections.specs.Refused.{AllHold}
-use Rattle.sections.specs.declared.State.{State}
+use Rattle.walks.specs.declared.State.{State}
 use Rattle.sections.specs.declared.Cut.{Cut}
-use Rattle.sections.specs.declared.FileRefusal.{FileRefusal}
+use Rattle.sections.specs.declared.Refusal.{Refusal}
 use Rattle.sections.specs.declared.Judged.{Judged}
-use Rattle.sections.specs.declared.Judged.the-variants.{Fine, Wrong}
+use Rattle.sections.specs.declared.Judged.the-variants as J
 use Rattle.walks.specs.declared.Step.the-variants.{Next, Done, Refused}
-use Rattle.sections.specs.declared.Walked.the-variants.{Whole, Rejected}
+use Rattle.walks.specs.declared.Walked.the-variants as W
 use Rattle.sections.proofs.Framed.{framed-is}
 use Rattle.sections.proofs.Order.{past-three}
 use Rattle.sections.proofs.Faults.{Clean, fine-all, fine-framed, clean}
@@ -111,45 +113,45 @@ kept-past st seen n want chosen m k = go (eqb n 7)
 -- ── what a step that goes on says ──
 
 pub record Went (own : Own) (s : List ℕ) (end : ℕ) (st next : State) : Type 0 where
-  pub fine : firstFault (checksAt own s end (contextIn st) (st .at)) ≡ Fine
+  pub fine : firstFault (checksAt own s end (contextIn st) (st .at)) ≡ J.Accepted
   pub open-end : st .at ≡ end → ⊥
   pub moved : next ≡ past st (numberAt s (st .at)) (lengthAt s (st .at))
 
 went-by : (own : Own) (s : List ℕ) (end : ℕ) (st next : State) (j : Judged) (t : Bool) → firstFault (checksAt own s end (contextIn st) (st .at)) ≡ j → eqb (st .at) end ≡ t
     → stepFrom s end st j ≡ Next next → Went own s end st next
-went-by own s end st next Fine true e p h =
+went-by own s end st next J.Accepted true e p h =
     let g : Done ≡ Next next = rw p at h in
     let z : _≡_ {A = ℕ} 0 1 = cc in absurd (omega arith)
-went-by own s end st next Fine false e p h =
+went-by own s end st next J.Accepted false e p h =
     let g : Next (past st (numberAt s (st .at)) (lengthAt s (st .at))) ≡ Next next = rw p at h in
     record { fine = e; open-end = eqb-false _ _ p; moved = cc g }
-went-by own s end st next (Wrong r) t e p h = let z : _≡_ {A = ℕ} 0 1 = cc in absurd (omega arith)
+went-by own s end st next (J.Refused r) t e p h = let z : _≡_ {A = ℕ} 0 1 = cc in absurd (omega arith)
 
 pub went : (own : Own) (s : List ℕ) (end : ℕ) (st next : State) → stepOf own s end st ≡ Next next → Went own s end st next
 unfolding stepOf
 went own s end st next h = went-by own s end st next (firstFault (checksAt own s end (contextIn st) (st .at))) (eqb (st .at) end) refl refl h
 
 pub record Ended (own : Own) (s : List ℕ) (end : ℕ) (st : State) : Type 0 where
-  pub fine : firstFault (checksAt own s end (contextIn st) (st .at)) ≡ Fine
+  pub fine : firstFault (checksAt own s end (contextIn st) (st .at)) ≡ J.Accepted
   pub there : st .at ≡ end
 
 ended-by : (own : Own) (s : List ℕ) (end : ℕ) (st : State) (j : Judged) (t : Bool) → firstFault (checksAt own s end (contextIn st) (st .at)) ≡ j → eqb (st .at) end ≡ t
     → stepFrom s end st j ≡ Done → Ended own s end st
-ended-by own s end st Fine true e p h = record { fine = e; there = eqb-true _ _ p }
-ended-by own s end st Fine false e p h =
+ended-by own s end st J.Accepted true e p h = record { fine = e; there = eqb-true _ _ p }
+ended-by own s end st J.Accepted false e p h =
     let g : Next (past st (numberAt s (st .at)) (lengthAt s (st .at))) ≡ Done = rw p at h in
     let z : _≡_ {A = ℕ} 0 1 = cc in absurd (omega arith)
-ended-by own s end st (Wrong r) t e p h = let z : _≡_ {A = ℕ} 0 1 = cc in absurd (omega arith)
+ended-by own s end st (J.Refused r) t e p h = let z : _≡_ {A = ℕ} 0 1 = cc in absurd (omega arith)
 
-refused-by : (s : List ℕ) (end : ℕ) (st : State) (r : FileRefusal) (j : Judged) (t : Bool) → eqb (st .at) end ≡ t
-    → stepFrom s end st j ≡ Refused r → j ≡ Wrong r
-refused-by s end st r Fine true p h =
+refused-by : (s : List ℕ) (end : ℕ) (st : State) (r : Refusal) (j : Judged) (t : Bool) → eqb (st .at) end ≡ t
+    → stepFrom s end st j ≡ Refused r → j ≡ J.Refused r
+refused-by s end st r J.Accepted true p h =
     let g : Done ≡ Refused r = rw p at h in
     let z : _≡_ {A = ℕ} 0 1 = cc in absurd (omega arith)
-refused-by s end st r Fine false p h =
+refused-by s end st r J.Accepted false p h =
     let g : Next (past st (numberAt s (st .at)) (lengthAt s (st .at))) ≡ Refused r = rw p at h in
     let z : _≡_ {A = ℕ} 0 1 = cc in absurd (omega arith)
-refused-by s end st r (Wrong q) t p h = cc h
+refused-by s end st r (J.Refused q) t p h = cc h
 
 -- the checks by the state are those by the history
 same-checks : (own : Own) (s : List ℕ) (end : ℕ) (st : State) (seen : List Seen) (j : Judged) → Mirrors st seen
@@ -167,7 +169,7 @@ three-points : (own : Own) → Few own → (s : List ℕ) (x : Context) (at n : 
 unfolding sectionChecks
 three-points own few s x at n e h = few s x at (subst (λ (m : ℕ). AllHold (sectionChecks own s x at m)) e h)
 
-points-past : (own : Own) → Few own → (s : List ℕ) (end : ℕ) (st : State) → (st .at ≡ end → ⊥) → firstFault (checksAt own s end (contextIn st) (st .at)) ≡ Fine
+points-past : (own : Own) → Few own → (s : List ℕ) (end : ℕ) (st : State) → (st .at ≡ end → ⊥) → firstFault (checksAt own s end (contextIn st) (st .at)) ≡ J.Accepted
     → (3 ≤ st .previous → pointsAt s (st .section3) ≤ 2097152)
     → (n len : ℕ) → n ≡ numberAt s (st .at) → 3 ≤ n → pointsAt s (past st n len .section3) ≤ 2097152
 unfolding past
@@ -212,7 +214,7 @@ unfolding past
 past-previous st n len = refl
 
 module _ (own : Own) (few : Few own) (s : List ℕ) (end want : ℕ) (st : State) (chosen : Cut) (a : Along own s end want st chosen) where
-  go-next : (f : ℕ) → f ≡ a .fuel → firstFault (checksAt own s end (contextIn st) (st .at)) ≡ Fine → (st .at ≡ end → ⊥)
+  go-next : (f : ℕ) → f ≡ a .fuel → firstFault (checksAt own s end (contextIn st) (st .at)) ≡ J.Accepted → (st .at ≡ end → ⊥)
       → Along own s end want (past st (numberAt s (st .at)) (lengthAt s (st .at))) (chosenAfter want st (numberAt s (st .at)) chosen)
   go-next zero e h ne =
       let inside = a .inside in
@@ -229,7 +231,7 @@ module _ (own : Own) (few : Few own) (s : List ℕ) (end want : ℕ) (st : State
       let enough = a .enough in
       let later = a .later in
       let there : sections own (a .fuel) s end (a .seen) (st .at) ≡ sections own f s end (seenAt s (st .at) ∷ a .seen) (st .at + len) =
-      ap (λ (k : ℕ). sections own k s end (a .seen) (st .at)) (sym e) ∙ sections-next own f s end (a .seen) (st .at) (same-checks own s end st (a .seen) Fine (a .mirrors) h) ne in
+      ap (λ (k : ℕ). sections own k s end (a .seen) (st .at)) (sym e) ∙ sections-next own f s end (a .seen) (st .at) (same-checks own s end st (a .seen) J.Accepted (a .mirrors) h) ne in
       record {
         fuel = f;
         seen = seenAt s (st .at) ∷ a .seen;
@@ -256,9 +258,9 @@ module _ (own : Own) (few : Few own) (s : List ℕ) (end want : ℕ) (st : State
   go-done (suc f) e d =
       a .same
       ∙ ap (λ (k : ℕ). sections own k s end (a .seen) (st .at)) (sym e)
-      ∙ sections-done own f s end (a .seen) (st .at) (same-checks own s end st (a .seen) Fine (a .mirrors) (d .fine)) (d .there)
+      ∙ sections-done own f s end (a .seen) (st .at) (same-checks own s end st (a .seen) J.Accepted (a .mirrors) (d .fine)) (d .there)
 
-  go-refused : (f : ℕ) (r : FileRefusal) → f ≡ a .fuel → firstFault (checksAt own s end (contextIn st) (st .at)) ≡ Wrong r
+  go-refused : (f : ℕ) (r : Refusal) → f ≡ a .fuel → firstFault (checksAt own s end (contextIn st) (st .at)) ≡ J.Refused r
       → sections own (length s) s end [] 16 ≡ refused r
   go-refused zero r e d =
       let inside = a .inside in
@@ -268,7 +270,7 @@ module _ (own : Own) (few : Few own) (s : List ℕ) (end want : ℕ) (st : State
   go-refused (suc f) r e d =
       a .same
       ∙ ap (λ (k : ℕ). sections own k s end (a .seen) (st .at)) (sym e)
-      ∙ sections-refused own f s end (a .seen) (st .at) r (same-checks own s end st (a .seen) (Wrong r) (a .mirrors) d)
+      ∙ sections-refused own f s end (a .seen) (st .at) r (same-checks own s end st (a .seen) (J.Refused r) (a .mirrors) d)
 
   pub along-next : (next : State) → stepOf own s end st ≡ Next next → Along own s end want next (chosenAfter want st (next .previous) chosen)
   along-next next h =
@@ -279,13 +281,13 @@ module _ (own : Own) (few : Few own) (s : List ℕ) (end want : ℕ) (st : State
       (subst (λ (k : ℕ). Along own s end want (past st n len) (chosenAfter want st k chosen)) (sym (past-previous st n len))
       (go-next (a .fuel) refl (w .fine) (w .open-end)))
 
-  pub along-done : stepOf own s end st ≡ Done → Whole (record { cuts = st .cuts; cut = chosen }) ≡ answerFor want (sections own (length s) s end [] 16)
+  pub along-done : stepOf own s end st ≡ Done → W.Accepted (record { cuts = st .cuts; cut = chosen }) ≡ answerFor want (sections own (length s) s end [] 16)
   unfolding answerFor stepOf
   along-done h =
       let d = ended-by own s end st (firstFault (checksAt own s end (contextIn st) (st .at))) (eqb (st .at) end) refl refl h in
       rw (go-done (a .fuel) refl d, a .mirrors .cuts-is, count-cuts (a .seen), a .kept)
 
-  pub along-refused : (r : FileRefusal) → stepOf own s end st ≡ Refused r → Rejected r ≡ answerFor want (sections own (length s) s end [] 16)
+  pub along-refused : (r : Refusal) → stepOf own s end st ≡ Refused r → W.Refused r ≡ answerFor want (sections own (length s) s end [] 16)
   unfolding answerFor stepOf
   along-refused r h =
       rw (go-refused (a .fuel) r refl (refused-by s end st r (firstFault (checksAt own s end (contextIn st) (st .at))) (eqb (st .at) end) refl h))

@@ -1,2 +1,4 @@
 pub mod Formats
+pub mod Answer
+pub mod Places
 pub mod Walk

@@ -7,13 +7,13 @@ use lib.Dec.{eqb}
 use Rattle.rules.specs.Fields.{lengthAt, numberAt, pointsAt}
 use Rattle.sections.specs.Checks.{Own, checksAt}
 use Rattle.sections.specs.Verdict.{firstFault}
-use Rattle.sections.specs.Places.{firstIn, contextIn}
+use Rattle.walks.specs.Places.{firstIn, contextIn}
 use Rattle.sections.specs.declared.Cut.{Cut}
-use Rattle.sections.specs.declared.State.{State}
+use Rattle.walks.specs.declared.State.{State}
 use Rattle.sections.specs.declared.Judged.{Judged}
-use Rattle.sections.specs.declared.Judged.the-variants.{Fine, Wrong}
-use Rattle.sections.specs.declared.Walked.{Walked}
-use Rattle.sections.specs.declared.Walked.the-variants.{Whole, Rejected}
+use Rattle.sections.specs.declared.Judged.the-variants as J
+use Rattle.walks.specs.declared.Walked.{Walked}
+use Rattle.walks.specs.declared.Walked.the-variants as W
 use Rattle.walks.specs.declared.Ended.{Ended}
 use Rattle.walks.specs.declared.Step.{Step}
 use Rattle.walks.specs.declared.Step.the-variants.{Next, Done, Refused}
@@ -46,8 +46,8 @@ pub record Sound (s : List ℕ) (end : ℕ) (st : State) : Type 0 where
   pub few : st .cuts ≤ st .at
 
 abbrev pub stepFrom : List ℕ → ℕ → State → Judged → Step
-stepFrom s end st Fine = cond (eqb (st .at) end) Done (Next (past st (numberAt s (st .at)) (lengthAt s (st .at))))
-stepFrom s end st (Wrong r) = Refused r
+stepFrom s end st J.Accepted = cond (eqb (st .at) end) Done (Next (past st (numberAt s (st .at)) (lengthAt s (st .at))))
+stepFrom s end st (J.Refused r) = Refused r
 
 -- one step of the walk, by a format's own checks
 unfoldable pub stepOf : Own → List ℕ → ℕ → State → Step
@@ -55,8 +55,8 @@ stepOf own s end st = stepFrom s end st (firstFault (checksAt own s end (context
 
 -- what the walk answers where it ended
 abbrev pub answerBy : Judged → ℕ → Cut → Walked
-answerBy Fine n c = Whole (record { cuts = n; cut = c })
-answerBy (Wrong r) n c = Rejected r
+answerBy J.Accepted n c = W.Accepted (record { cuts = n; cut = c })
+answerBy (J.Refused r) n c = W.Refused r
 
 unfoldable pub endedAs : Ended → Walked
 endedAs e = answerBy (e .judged) (e .cuts) (e .cut)

@@ -1,4 +1,4 @@
--- The checks as a chain of `unless` are the first that fails.
+-- The checks as a chain of `check` are the first that fails.
 use Rattle.rules.specs.Fields.{lengthAt}
 use borrow.Author.Needs.{needs}
 use Rattle.duallayout.proofs.judge7.Statement.{statement}
@@ -13,11 +13,11 @@ wide-requires c κs = search needs
 length7-at-requires : tie.Need-length7-at-requires
 length7-at-requires c κs = search needs
 
-fine-requires : tie.Need-fine-requires
-fine-requires c κs = search needs
+accepted-requires : tie.Need-accepted-requires
+accepted-requires c κs = search needs
 
-unless-requires : tie.Need-unless-requires
-unless-requires c κs = search needs
+check-requires : tie.Need-check-requires
+check-requires c κs = search needs
 
 returns : tie.Need-returns
 unfolding lengthAt
@@ -30,6 +30,6 @@ judge7-spec =
     field32-requires
     wide-requires
     length7-at-requires
-    fine-requires
-    unless-requires
+    accepted-requires
+    check-requires
     returns)

@@ -4,6 +4,7 @@ use denote.Ref.{now}
 use native.Mathlib.Omega.{arith}
 use mathlib.Core.Path.{_∙_, ap}
 use Rattle.dualpol.specs.Answers.{binOf}
+use Rattle.sections.specs.Refusal.{refuse}
 use borrow.Author.Needs.{needs}
 use Rattle.dualpol.proofs.bin_value_on.Statement.{statement}
 use Rattle.dualpol.proofs.bin_value_on.Tie as tie
@@ -15,9 +16,11 @@ bins-in-requires : tie.Need-bins-in-requires
 bins-in-requires c κs = search needs
 
 returns : tie.Need-returns
+unfolding refuse
 returns c = let a = c .before .before .before .before .args in (no-ray (now (a .file)) (a .c) (a .ray) (a .bin) (omega (arith, c .before .before .rays-in .ensures)), tt)
 
 returns-2 : tie.Need-returns-2
+unfolding refuse
 returns-2 c = let a = c .before .before .before .before .before .args in (no-bin (now (a .file)) (a .c) (a .ray) (a .bin) (omega (arith, c .before .before .bins-in .ensures)), tt)
 
 told-in-requires : tie.Need-told-in-requires

@@ -1,5 +1,5 @@
 -- By what the walk answers.
-use Rattle.polar.proofs.OnCut.{file-some, file-bad}
+use Rattle.calls.proofs.Finding.{file-some, file-bad}
 use Rattle.dualpol.specs.declared.DualOpened.the-variants.{File}
 use mathlib.Core.Path.{sym, _∙_, ap}
 use Rattle.dualpol.specs.Answers.{openAnswer}

@@ -1,4 +1,4 @@
--- The checks as a chain of `unless` are the first that fails.
+-- The checks as a chain of `check` are the first that fails.
 use Rattle.rules.specs.Fields.{lengthAt}
 use borrow.Author.Needs.{needs}
 use Rattle.layout.proofs.judge3.Statement.{statement}
@@ -19,21 +19,34 @@ points-at-requires c κs = search needs
 fields3-requires : tie.Need-fields3-requires
 fields3-requires c κs = search needs
 
-fine-requires : tie.Need-fine-requires
-fine-requires c κs = search needs
+accepted-requires : tie.Need-accepted-requires
+accepted-requires c κs = search needs
 
-unless-requires : tie.Need-unless-requires
-unless-requires c κs = search needs
+check-requires : tie.Need-check-requires
+check-requires c κs = search needs
 
-unless-requires-2 : tie.Need-unless-requires-2
-unless-requires-2 c κs = search needs
+check-requires-2 : tie.Need-check-requires-2
+check-requires-2 c κs = search needs
 
-unless-requires-3 : tie.Need-unless-requires-3
-unless-requires-3 c κs = search needs
+check-requires-3 : tie.Need-check-requires-3
+check-requires-3 c κs = search needs
 
 returns : tie.Need-returns
 unfolding lengthAt
-returns c = cc
+returns c = let fields = c .before .before .before .before in
+    let points = fields .before in
+    let len = points .before .before .before in
+    rw (
+      c .check3 .ensures,
+      c .before .check2 .ensures,
+      c .before .before .check .ensures,
+      c .before .before .before .accepted .ensures,
+      fields .fields3 .ensures,
+      points .points-at .ensures,
+      points .before .wide .ensures,
+      points .before .before .field322 .ensures,
+      len .field32 .ensures,
+    )
 
 pub judge3-spec : {M : Type 1} → statement M
 judge3-spec =
@@ -44,8 +57,8 @@ judge3-spec =
     wide-requires
     points-at-requires
     fields3-requires
-    fine-requires
-    unless-requires
-    unless-requires-2
-    unless-requires-3
+    accepted-requires
+    check-requires
+    check-requires-2
+    check-requires-3
     returns)

@@ -1,4 +1,4 @@
--- The checks as a chain of `unless` are the first that fails.
+-- The checks as a chain of `check` are the first that fails.
 use Rattle.rules.specs.Fields.{lengthAt, raysAt, parameterAt, siteAt}
 use borrow.Author.Needs.{needs}
 use Rattle.layout.proofs.judge4.Statement.{statement}
@@ -22,9 +22,6 @@ mul-due c = search needs
 add-due : tie.Need-add-due
 add-due c = search needs
 
-first-in-requires : tie.Need-first-in-requires
-first-in-requires c κs = search needs
-
 field8-requires : tie.Need-field8-requires
 field8-requires c κs = search needs
 
@@ -34,18 +31,18 @@ field16-requires c κs = search needs
 fields4-requires : tie.Need-fields4-requires
 fields4-requires c κs = search needs
 
-fine-requires : tie.Need-fine-requires
-fine-requires c κs = search needs
+accepted-requires : tie.Need-accepted-requires
+accepted-requires c κs = search needs
 
-unless-requires : tie.Need-unless-requires
-unless-requires c κs = search needs
+check-requires : tie.Need-check-requires
+check-requires c κs = search needs
 
-unless-requires-2 : tie.Need-unless-requires-2
-unless-requires-2 c κs = search needs
+check-requires-2 : tie.Need-check-requires-2
+check-requires-2 c κs = search needs
 
 returns : tie.Need-returns
 unfolding lengthAt raysAt parameterAt siteAt
-returns c = cc
+returns c = rw (c .check2 .ensures, c .before .check .ensures, c .before .before .accepted .ensures, c .before .before .before .fields4 .ensures, c .before .before .before .before .field16 .ensures, c .before .before .before .before .before .field8 .ensures, c .before .before .before .before .before .before .wide2 .ensures, c .before .before .before .before .before .before .before .field322 .ensures, c .before .before .before .before .before .before .before .before .wide .ensures, c .before .before .before .before .before .before .before .before .before .field32 .ensures)
 
 pub judge4-spec : {M : Type 1} → statement M
 judge4-spec =
@@ -57,11 +54,10 @@ judge4-spec =
     wide-requires-2
     mul-due
     add-due
-    first-in-requires
     field8-requires
     field16-requires
     fields4-requires
-    fine-requires
-    unless-requires
-    unless-requires-2
+    accepted-requires
+    check-requires
+    check-requires-2
     returns)

@@ -33,15 +33,18 @@ judge5-fields-requires c κs = let a = c .before .before .before .before .before
 returns : tie.Need-returns
 unfolding lengthAt countAt
 returns c = let a = c .before .before .before .before .before .before .args in
-    let e : lengthAt (now (a .s)) (a .st .at) ≡ 17 + 2 * countAt (now (a .s)) (a .st .at) = cc in
+    let e : lengthAt (now (a .s)) (a .at) ≡ 17 + 2 * countAt (now (a .s)) (a .at) = cc in
     rw (eq-eqb _ _ e) (c .judge5-fields .ensures)
+
+refused-requires : tie.Need-refused-requires
+refused-requires c κs = search needs
 
 returns-2 : tie.Need-returns-2
 unfolding lengthAt countAt
-returns-2 c = let a = c .before .before .before .before .before .args in
-    let w : c .before .wide16 .result ≡ countAt (now (a .s)) (a .st .at) = cc in
-    let n : lengthAt (now (a .s)) (a .st .at) ≡ 17 + 2 * countAt (now (a .s)) (a .st .at) → ⊥ = λ e. c .if1 .left (cc) in
-    rw (ne-eqb _ _ n)
+returns-2 c = let a = c .before .before .before .before .before .before .args in
+    let w : c .before .before .wide16 .result ≡ countAt (now (a .s)) (a .at) = cc in
+    let n : lengthAt (now (a .s)) (a .at) ≡ 17 + 2 * countAt (now (a .s)) (a .at) → ⊥ = λ e. c .before .if1 .left (cc) in
+    rw (ne-eqb _ _ n) (c .refused .ensures)
 
 pub judge5-spec : {M : Type 1} → statement M
 judge5-spec =
@@ -53,5 +56,6 @@ judge5-spec =
     mul-due
     add-due
     judge5-fields-requires
+    refused-requires
     returns
     returns-2)

@@ -1,4 +1,4 @@
--- The checks as a chain of `unless` are the first that fails.
+-- The checks as a chain of `check` are the first that fails.
 use Rattle.values.proofs.Listed.{count-le}
 use Rattle.rules.specs.Fields.{parameterAt}
 use native.Mathlib.Omega.{arith}
@@ -33,21 +33,21 @@ table-at-requires c κs = search needs
 fields5-requires : tie.Need-fields5-requires
 fields5-requires c κs = search needs
 
-fine-requires : tie.Need-fine-requires
-fine-requires c κs = search needs
+accepted-requires : tie.Need-accepted-requires
+accepted-requires c κs = search needs
 
-unless-requires : tie.Need-unless-requires
-unless-requires c κs = search needs
+check-requires : tie.Need-check-requires
+check-requires c κs = search needs
 
-unless-requires-2 : tie.Need-unless-requires-2
-unless-requires-2 c κs = search needs
+check-requires-2 : tie.Need-check-requires-2
+check-requires-2 c κs = search needs
 
-unless-requires-3 : tie.Need-unless-requires-3
-unless-requires-3 c κs = search needs
+check-requires-3 : tie.Need-check-requires-3
+check-requires-3 c κs = search needs
 
 returns : tie.Need-returns
 unfolding parameterAt
-returns c = cc
+returns c = rw (c .check3 .ensures, c .before .check2 .ensures, c .before .before .check .ensures, c .before .before .before .accepted .ensures, c .before .before .before .before .fields5 .ensures, c .before .before .before .before .before .table-at .ensures, c .before .before .before .before .before .before .level-count .ensures, c .before .before .before .before .before .before .before .points-at .ensures, c .before .before .before .before .before .before .before .before .wide .ensures, c .before .before .before .before .before .before .before .before .before .field32 .ensures, c .before .before .before .before .before .before .before .before .before .before .product-of .ensures, c .before .before .before .before .before .before .before .before .before .before .before .field8 .ensures)
 
 pub judge5-fields-spec : {M : Type 1} → statement M
 judge5-fields-spec =
@@ -62,8 +62,8 @@ judge5-fields-spec =
     cast-m
     table-at-requires
     fields5-requires
-    fine-requires
-    unless-requires
-    unless-requires-2
-    unless-requires-3
+    accepted-requires
+    check-requires
+    check-requires-2
+    check-requires-3
     returns)

@@ -1,4 +1,4 @@
--- The checks as a chain of `unless` are the first that fails.
+-- The checks as a chain of `check` are the first that fails.
 use Rattle.rules.specs.Fields.{lengthAt, greatestAt}
 use borrow.Author.Needs.{needs}
 use Rattle.layout.proofs.judge_any7.Statement.{statement}
@@ -10,14 +10,14 @@ field32-requires c κs = search needs
 field16-requires : tie.Need-field16-requires
 field16-requires c κs = search needs
 
-fine-requires : tie.Need-fine-requires
-fine-requires c κs = search needs
+accepted-requires : tie.Need-accepted-requires
+accepted-requires c κs = search needs
 
-unless-requires : tie.Need-unless-requires
-unless-requires c κs = search needs
+check-requires : tie.Need-check-requires
+check-requires c κs = search needs
 
-unless-requires-2 : tie.Need-unless-requires-2
-unless-requires-2 c κs = search needs
+check-requires-2 : tie.Need-check-requires-2
+check-requires-2 c κs = search needs
 
 returns : tie.Need-returns
 unfolding lengthAt greatestAt
@@ -29,7 +29,7 @@ judge-any7-spec =
     (tie.spec
     field32-requires
     field16-requires
-    fine-requires
-    unless-requires
-    unless-requires-2
+    accepted-requires
+    check-requires
+    check-requires-2
     returns)

@@ -1,5 +1,6 @@
 -- `step` meets its contract, one case for each standing.
 use native.Mathlib.Omega.{arith}
+use mathlib.Core.Path.{refl}
 use borrow.Author.Needs.{needs}
 use Rattle.listing.specs.Progress.{Sound}
 use Rattle.listing.proofs.Going.{goes-refused, goes-end, goes-head, goes-fill, goes-nowhere}
@@ -11,9 +12,6 @@ enum-known-p c = search needs
 
 number-of-requires : tie.Need-number-of-requires
 number-of-requires c κs = search needs
-
-place-of-requires : tie.Need-place-of-requires
-place-of-requires c κs = search needs
 
 put-refused-requires : tie.Need-put-refused-requires
 put-refused-requires c κs = search needs
@@ -51,9 +49,11 @@ same-length : tie.Need-same-length
 same-length c = search needs
 
 returns : tie.Need-returns
-returns c = let s = c .before .before .before .before .before .before .before .before .before .before .before .before in
-    goes-refused (s .args .file .now) (s .args .words .now) (s .args .text .now) (c .before .before .put-refused .last .0) (s .args .p) (s .args .at) (c .before .before .put-refused .result) (c .before .before .before .before .number-of .result)
-    (c .before .before .before .place-of .result) (c .before .before .before .before .before .before .before .p .given .0 .0) (c .before .before .before .before .before .before .before .p .given .1) (c .before .before .before .before .number-of .ensures) (c .before .before .before .place-of .ensures) (c .before .before .put-refused .ensures)
+returns c = let s : tie.Start = search in
+    let k : tie.After-number-of = search in
+    let f : tie.After-p = search in
+    goes-refused (s .args .file .now) (s .args .words .now) (s .args .text .now) (c .before .before .put-refused .last .0) (s .args .p) (s .args .at) (c .before .before .put-refused .result) (k .number-of .result)
+    (f .p .given .0 .0 .place) (f .p .given .0 .0) (f .p .given .1) (k .number-of .ensures) refl (c .before .before .put-refused .ensures)
 
 same-length-2 : tie.Need-same-length-2
 same-length-2 c = search needs
@@ -98,7 +98,6 @@ step-spec =
     (tie.spec
     enum-known-p
     number-of-requires
-    place-of-requires
     put-refused-requires
     enum-known-p-2
     put-first-line-requires

@@ -2,7 +2,7 @@
 use Rattle.fraction.specs.Quotient.{hundredths}
 use mir.ValLaws.{toZ-ofZ}
 use mir.Syntax.{w32}
-use Rattle.polar.specs.declared.BinAnswer.the-variants.{Value}
+use Rattle.calls.specs.declared.BinAnswer.the-variants.{Value}
 use Rattle.polar.specs.Rays.{binOf}
 use mathlib.Core.Path.{sym, _∙_, ap}
 use borrow.Author.Needs.{needs}

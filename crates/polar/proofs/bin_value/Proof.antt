@@ -1,44 +1,33 @@
--- By what the walk answers (OnCut.antt); an accepted file's cut is good.
-use Rattle.polar.proofs.OnCut.{on-some, on-none, on-bad}
+-- By the cut that was sought, which is good (`calls` Finding.antt).
+use Rattle.calls.proofs.Finding.{on-found, on-refused, good-cut}
 use Rattle.polar.specs.Rays.{binAnswer}
-use Rattle.layout.proofs.GoodCuts.{good-cut}
 use mathlib.Core.Path.{sym, _∙_}
 use borrow.Author.Needs.{needs}
 use Rattle.polar.proofs.bin_value.Statement.{statement}
 use Rattle.polar.proofs.bin_value.Tie as tie
 
-walk-requires : tie.Need-walk-requires
-walk-requires c κs = search needs
-
-enum-known-f : tie.Need-enum-known-f
-enum-known-f c = search needs
-
 bin-value-on-requires : tie.Need-bin-value-on-requires
-bin-value-on-requires c κs = good-cut _ _ _ (sym (c .before .before .before .before .before .before .walk .ensures) ∙ c .before .before .before .before .f .given .1) (c .if1 .taken)
+bin-value-on-requires c κs = let f : tie.After-c = search in
+    let told = sym (f .before .before .find .ensures) ∙ f .c .given .1 in
+    good-cut _ _ _ told
 
 returns : tie.Need-returns
 unfolding binAnswer
-returns c = c .bin-value-on .ensures ∙ sym (on-some _ _ _ _ _ _ (sym (c .before .before .before .before .before .before .before .walk .ensures) ∙ c .before .before .before .before .before .f .given .1) (c .before .if1 .taken))
-
-enum-known-refusal : tie.Need-enum-known-refusal
-enum-known-refusal c = search needs
+returns c = let f : tie.After-c = search in
+    let told = sym (f .before .before .find .ensures) ∙ f .c .given .1 in
+    record { answer = c .bin-value-on .ensures ∙ sym (on-found _ _ _ _ _ told) }
 
 returns-2 : tie.Need-returns-2
 unfolding binAnswer
-returns-2 c = sym (on-none _ _ _ _ _ _ (sym (c .before .before .before .before .before .before .walk .ensures) ∙ c .before .before .before .before .f .given .1) (c .if1 .left))
-
-returns-3 : tie.Need-returns-3
-unfolding binAnswer
-returns-3 c = sym (on-bad _ _ _ _ _ _ (sym (c .before .before .before .walk .ensures) ∙ c .before .refusal .given .1))
+returns-2 c = record { answer = sym (on-refused _ _ _ _ _ (sym (c .before .before .before .find .ensures) ∙ c .before .refusal .given .1)) }
 
 pub bin-value-spec : {M : Type 1} → statement M
 bin-value-spec =
     tie.close
     (tie.spec
-    walk-requires
-    enum-known-f
+    (λ c κs. search needs)
+    (λ c. search needs)
     bin-value-on-requires
+    (λ c. search needs)
     returns
-    enum-known-refusal
-    returns-2
-    returns-3)
+    returns-2)

@@ -6,6 +6,7 @@ use Rattle.values.specs.Reading.{readingOf}
 use denote.Ref.{now}
 use native.Mathlib.Omega.{arith}
 use mathlib.Core.Path.{_∙_, ap}
+use Rattle.sections.specs.Refusal.{refuse}
 use borrow.Author.Needs.{needs}
 use Rattle.polar.proofs.bin_value_on.Statement.{statement}
 use Rattle.polar.proofs.bin_value_on.Tie as tie
@@ -17,10 +18,12 @@ bins-in-requires : tie.Need-bins-in-requires
 bins-in-requires c κs = search needs
 
 returns : tie.Need-returns
+unfolding refuse
 returns c = let a = c .before .before .before .before .args in
     bin-ray-none (now (a .file)) (a .c) _ _ (c .before .before .rays-in .ensures) (c .before .bins-in .ensures) (a .ray) (a .bin) (c .if1 .taken)
 
 returns-2 : tie.Need-returns-2
+unfolding refuse
 returns-2 c = let a = c .before .before .before .before .before .args in
     bin-none (now (a .file)) (a .c) _ _ (c .before .before .before .rays-in .ensures) (c .before .before .bins-in .ensures) (a .ray) (a .bin) (c .if2 .taken)
 

@@ -4,6 +4,7 @@ use lib.ListN.{length}
 use denote.Ref.{now}
 use native.Mathlib.Omega.{arith}
 use mathlib.Core.Path.{refl}
+use Rattle.sections.specs.Refusal.{refuse}
 use borrow.Author.Needs.{needs}
 use Rattle.polar.proofs.ray_levels_on.Statement.{statement}
 use Rattle.polar.proofs.ray_levels_on.Tie as tie
@@ -15,10 +16,12 @@ bins-in-requires : tie.Need-bins-in-requires
 bins-in-requires c κs = search needs
 
 returns : tie.Need-returns
+unfolding refuse
 returns c = let a = c .before .before .before .before .before .args in
     (ray-none (now (a .file)) (a .c) _ _ (c .before .before .rays-in .ensures) (c .before .bins-in .ensures) (a .ray) (length (now (a .out))) (c .if1 .taken), refl)
 
 returns-2 : tie.Need-returns-2
+unfolding refuse
 returns-2 c = let a = c .before .before .before .before .before .before .args in
     (ray-short (now (a .file)) (a .c) _ _ (c .before .before .before .rays-in .ensures) (c .before .before .bins-in .ensures) (a .ray) (length (now (a .out))) (c .before .if1 .left) (c .if2 .taken), refl)
 

@@ -5,6 +5,7 @@ use denote.Ref.{now}
 use native.Mathlib.Omega.{arith}
 use Prim.Native.Nat.{ℕ, min}
 use mathlib.Core.Path.{refl}
+use Rattle.sections.specs.Refusal.{refuse}
 use borrow.Author.Needs.{needs}
 use Rattle.polar.proofs.ray_values_on.Statement.{statement}
 use Rattle.polar.proofs.ray_values_on.Tie as tie
@@ -19,14 +20,17 @@ bins-in-requires : tie.Need-bins-in-requires
 bins-in-requires c κs = search needs
 
 returns : tie.Need-returns
+unfolding refuse
 returns c = let s = c .before .before .before .before .before in
     (ray-none (now (s .args .file)) (s .args .c) _ _ (c .before .before .rays-in .ensures) (c .before .bins-in .ensures) (s .args .ray) (room s) (c .if1 .taken), (refl, refl))
 
 returns-2 : tie.Need-returns-2
+unfolding refuse
 returns-2 c = let s = c .before .before .before .before .before .before in
     (ray-short (now (s .args .file)) (s .args .c) _ _ (c .before .before .before .rays-in .ensures) (c .before .before .bins-in .ensures) (s .args .ray) (room s) (c .before .if1 .left) (omega arith), (refl, refl))
 
 returns-3 : tie.Need-returns-3
+unfolding refuse
 returns-3 c = let s = c .before .before .before .before .before .before .before in
     (ray-short (now (s .args .file)) (s .args .c) _ _ (c .before .before .before .before .rays-in .ensures) (c .before .before .before .bins-in .ensures) (s .args .ray) (room s) (c .before .before .if1 .left) (omega arith), (refl, refl))
 

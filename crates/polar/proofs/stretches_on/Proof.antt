@@ -11,6 +11,7 @@ use lib.ListN.{length}
 use denote.Ref.{now}
 use borrow.Author.Tests.{not-true, not-false}
 use mathlib.Core.Path.{refl, sym, _∙_, ap}
+use Rattle.sections.specs.Refusal.{refuse}
 use borrow.Author.Needs.{needs}
 use Rattle.polar.proofs.stretches_on.Statement.{statement}
 use Rattle.polar.proofs.stretches_on.Tie as tie
@@ -25,6 +26,7 @@ right-t-requires : tie.Need-right-t-requires
 right-t-requires c κs = search needs
 
 returns : tie.Need-returns
+unfolding refuse
 returns c = let a = c .before .before .before .before .before .before .args in
     let back = toZ-ofZ w32 (a .t) (c .before .before .before .before .before .before .fits .t) in
     let wrong = ap rightT (sym back) ∙ sym (c .before .right-t .ensures) ∙ not-true _ (c .if1 .taken) in
@@ -34,11 +36,13 @@ right-point-requires : tie.Need-right-point-requires
 right-point-requires c κs = search needs
 
 returns-2 : tie.Need-returns-2
+unfolding refuse
 returns-2 c = let a = c .before .before .before .before .before .before .before .before .args in
     let wrong = sym (c .before .right-point .ensures) ∙ not-true _ (c .if2 .taken) in
     (list-wrong-point (now (a .file)) (a .c) _ _ (c .before .before .before .before .before .rays-in .ensures) (c .before .before .before .before .bins-in .ensures) (a .ray) (a .t) (a .bin) _ wrong, refl)
 
 returns-3 : tie.Need-returns-3
+unfolding refuse
 returns-3 c = let a = c .before .before .before .before .before .before .before .before .before .args in
     let back = toZ-ofZ w32 (a .t) (c .before .before .before .before .before .before .before .before .before .fits .t) in
     let right = ap rightT (sym back) ∙ sym (c .before .before .before .before .right-t .ensures) ∙ not-false _ (c .before .before .before .if1 .left) in

@@ -12,7 +12,7 @@ tell-bin-requires c κs = search needs
 
 returns : tie.Need-returns
 returns c =
-    let e = sym (c .before .before .before .bin-value .ensures) in
+    let e = sym (c .before .before .before .bin-value .ensures .answer) in
     record { returned = rw e (c .tell-bin .ensures .0); held = rw e (c .tell-bin .ensures .1 .0); told = rw e (c .tell-bin .ensures .1 .1) }
 
 pub polar-bin-value-spec : {M : Type 1} → statement M

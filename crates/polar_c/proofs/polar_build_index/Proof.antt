@@ -40,13 +40,14 @@ use denote.Triple.Table.{entered, cited}
 use denote.Triple.Clauses.{ensured, lasts}
 use denote.Triple.Walked.{says, Stays, gave-ref, gave-slice, stay-dropped, walkOf, goes-gave-ref, goes-gave-slice, goes-dropped, Walks, ends-at, walked, walk-meets}
 use Rattle.index.specs.declared.RayRecord.{RayRecord}
-use Rattle.polar.specs.declared.RayAnswer.{RayAnswer}
-use Rattle.records.specs.Records.{BuildPromise, rowAfter}
+use Rattle.calls.specs.declared.RayAnswer.{RayAnswer}
+use Rattle.records.specs.Promises.{BuildPromise}
+use Rattle.records.specs.Records.{rowAfter}
 use Rattle.polar_c.specs.Files.{rayNumber, rayWords}
 use Rattle.polar_c.specs.Records.{BuildIndexCall}
 use Rattle.index.proofs.RayRecord as R
-use Rattle.polar.proofs.RayAnswer as E
-use Rattle.polar.proofs.RayAnswer.Laws as E′
+use Rattle.calls.proofs.RayAnswer as E
+use Rattle.calls.proofs.RayAnswer.Laws as E′
 use Rattle.records.proofs.build_index as build
 use Rattle.records.proofs.build_index.Symbol as build-def
 use Rattle.records.proofs.build_index.Symbol.{name as #records·build-index}
@@ -70,9 +71,9 @@ stayed = (stay-dropped (shrSliceOf (0 ∷ []) tt (plain (λ _. u8))) yes, (stay-
 -- what the two callees promise, together
 promised : (s : List ℕ) (i : ℕ) (ys : List RayRecord) (p : List ℕ) (r : RayAnswer) (zs : List RayRecord) (n : ℕ) (ws : List ℕ) → BuildPromise s i ys r zs → n ≡ rayNumber r → ws ≡ rayWords r p → BuildIndexCall s i ys p n zs ws
 promised s i ys p r zs n ws k e t = record {
-  returned = e ∙ ap rayNumber (k .answered);
-  held = k .held ∙ ap (λ (a : RayAnswer). rowAfter a s i ys) (k .answered);
-  told = t ∙ ap (λ (a : RayAnswer). rayWords a p) (k .answered);
+  returned = e ∙ ap rayNumber (k .answer);
+  held = k .after ∙ ap (λ (a : RayAnswer). rowAfter a s i ys) (k .answer);
+  told = t ∙ ap (λ (a : RayAnswer). rayWords a p) (k .answer);
 }
 
 module _ {M : Type 1} (𝓤 : URA M) (H : Heap 𝓤) (A : Atoms 𝓤) (mem : Memory → SProp 𝓤) (run : Routine → Fun 𝓤) where

@@ -17,38 +17,38 @@ enum-known-info c = search needs
 tell-info-requires : tie.Need-tell-info-requires
 tell-info-requires c κs = search needs
 
-enum-known-why : tie.Need-enum-known-why
-enum-known-why c = search needs
+enum-known-refusal : tie.Need-enum-known-refusal
+enum-known-refusal c = search needs
 
-ask-place-requires : tie.Need-ask-place-requires
-ask-place-requires c κs = search needs
+place-of-requires : tie.Need-place-of-requires
+place-of-requires c κs = search needs
 
 cast-answer : tie.Need-cast-answer
 cast-answer c =
     let a = c .before .before .before .before .before .before .args in
-    let h = cut-inside (a .file .now) (a .cut) _ (sym (c .before .before .before .before .cut-info .ensures) ∙ c .before .before .why .given .1) in
-    let e = c .ask-place .ensures in
+    let h = cut-inside (a .file .now) (a .cut) _ (sym (c .before .before .before .before .cut-info .ensures .answer) ∙ c .before .before .refusal .given .1) in
+    let e = c .place-of .ensures in
     record { sfits = omega (arith, c .before .before .before .before .before .before .good) }
 
 element-set-from-answer : tie.Need-element-set-from-answer
 element-set-from-answer c = search needs
 
-ask-number-requires : tie.Need-ask-number-requires
-ask-number-requires c κs = search needs
+number-of-requires : tie.Need-number-of-requires
+number-of-requires c κs = search needs
 
 returns : tie.Need-returns
 returns c =
-    let e = sym (c .before .before .before .before .before .cut-info .ensures) ∙ c .before .before .before .info .given .1 in
+    let e = sym (c .before .before .before .before .before .cut-info .ensures .answer) ∙ c .before .before .before .info .given .1 in
     record { returned = rw e refl; told = rw e (c .tell-info .ensures) }
 
 returns-2 : tie.Need-returns-2
 returns-2 c =
     let a = c .before .before .before .before .before .before .before .args in
-    let e = sym (c .before .before .before .before .before .cut-info .ensures) ∙ c .before .before .before .why .given .1 in
+    let e = sym (c .before .before .before .before .before .cut-info .ensures .answer) ∙ c .before .before .before .refusal .given .1 in
     let h = cut-inside (a .file .now) (a .cut) _ e in
-    let p = c .before .ask-place .ensures in
-    let q = toZ-pos w64 (c .before .ask-place .result) (omega (arith, c .before .before .before .before .before .before .before .good)) in
-    record { returned = rw e (c .ask-number .ensures); told = rw (e, q, p) refl }
+    let p = c .before .place-of .ensures in
+    let q = toZ-pos w64 (c .before .place-of .result) (omega (arith, c .before .before .before .before .before .before .before .good)) in
+    record { returned = rw e (c .number-of .ensures); told = rw (e, q, p) refl }
 
 pub polar-cut-spec : {M : Type 1} → statement M
 polar-cut-spec =
@@ -57,10 +57,10 @@ polar-cut-spec =
     cut-info-requires
     enum-known-info
     tell-info-requires
-    enum-known-why
-    ask-place-requires
+    enum-known-refusal
+    place-of-requires
     cast-answer
     element-set-from-answer
-    ask-number-requires
+    number-of-requires
     returns
     returns-2)

@@ -12,8 +12,12 @@ tell-bin-requires c κs = search needs
 
 returns : tie.Need-returns
 returns c =
-    let e = sym (c .before .before .before .bin-value .ensures .answer) in
-    record { returned = rw e (c .tell-bin .ensures .0); held = rw e (c .tell-bin .ensures .1 .0); told = rw e (c .tell-bin .ensures .1 .1) }
+    let p = c .before .before .before .bin-value .ensures in
+    let e = sym (p .answer) in
+    record {
+      told = record { returned = rw e (c .tell-bin .ensures .0); held = rw e (c .tell-bin .ensures .1 .0); told = rw e (c .tell-bin .ensures .1 .1) };
+      near = rw e (p .near);
+    }
 
 pub polar-dual-bin-value-spec : {M : Type 1} → statement M
 polar-dual-bin-value-spec = tie.close (tie.spec bin-value-requires tell-bin-requires returns)

@@ -16,8 +16,8 @@ same-length c = search needs
 returns : tie.Need-returns
 returns c =
     let p = c .before .before .before .before .house-stretches .ensures in
-    let e = sym (p .0) in
-    record { returned = rw e (c .tell-stretches .ensures .0); held = rw e (p .1); told = rw e (c .tell-stretches .ensures .1) }
+    let e = sym (p .answer) in
+    record { returned = rw e (c .tell-stretches .ensures .0); held = rw e (p .after); told = rw e (c .tell-stretches .ensures .1) }
 
 pub polar-house-stretches-spec : {M : Type 1} → statement M
 polar-house-stretches-spec =

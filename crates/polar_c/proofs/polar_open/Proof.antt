@@ -12,7 +12,7 @@ tell-open-requires c κs = search needs
 
 returns : tie.Need-returns
 returns c =
-    let e = sym (c .before .before .open .ensures) in
+    let e = sym (c .before .before .open .ensures .answer) in
     record { returned = rw e (c .tell-open .ensures .0); told = rw e (c .tell-open .ensures .1) }
 
 pub polar-open-spec : {M : Type 1} → statement M

@@ -19,8 +19,8 @@ same-length-2 c = search needs
 returns : tie.Need-returns
 returns c =
     let p = c .before .before .before .before .before .ray-values .ensures in
-    let e = sym (p .0) in
-    record { returned = rw e (c .tell-ray .ensures .0); marked = rw e (p .1 .0); held = rw e (p .1 .1); told = rw e (c .tell-ray .ensures .1) }
+    let e = sym (p .answer) in
+    record { returned = rw e (c .tell-ray .ensures .0); marked = rw e (p .marked); held = rw e (p .valued); told = rw e (c .tell-ray .ensures .1) }
 
 pub polar-ray-values-spec : {M : Type 1} → statement M
 polar-ray-values-spec =

@@ -7,8 +7,8 @@ use Rattle.polar_c.proofs.polar_ray_values_from.Tie as tie
 ray-values-from-requires : tie.Need-ray-values-from-requires
 ray-values-from-requires c κs = search needs
 
-tell-from-requires : tie.Need-tell-from-requires
-tell-from-requires c κs = search needs
+tell-ray-requires : tie.Need-tell-ray-requires
+tell-ray-requires c κs = search needs
 
 same-length : tie.Need-same-length
 same-length c = search needs
@@ -19,10 +19,10 @@ same-length-2 c = search needs
 returns : tie.Need-returns
 returns c =
     let p = c .before .before .before .before .before .ray-values-from .ensures in
-    let e = sym (p .0) in
-    record { returned = rw e (c .tell-from .ensures .0); marked = rw e (p .1 .0); held = rw e (p .1 .1); told = rw e (c .tell-from .ensures .1) }
+    let e = sym (p .answer) in
+    record { returned = rw e (c .tell-ray .ensures .0); marked = rw e (p .marked); held = rw e (p .valued); told = rw e (c .tell-ray .ensures .1) }
 
 pub polar-ray-values-from-spec : {M : Type 1} → statement M
 polar-ray-values-from-spec =
     tie.close
-    (tie.spec ray-values-from-requires tell-from-requires same-length same-length-2 returns)
+    (tie.spec ray-values-from-requires tell-ray-requires same-length same-length-2 returns)

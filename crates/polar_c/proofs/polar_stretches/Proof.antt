@@ -20,8 +20,8 @@ returns c =
     let a = c .before .before .before .before .before .before .before .before .args in
     let back = toZ-ofZ w32 (a .t) (c .before .before .before .before .before .before .before .before .fits .t) in
     let p = c .before .before .before .before .stretches .ensures in
-    let e = sym (rw back at (p .0)) in
-    record { returned = rw e (c .tell-stretches .ensures .0); held = rw e (rw back at (p .1)); told = rw e (c .tell-stretches .ensures .1) }
+    let e = sym (rw back at (p .answer)) in
+    record { returned = rw e (c .tell-stretches .ensures .0); held = rw e (rw back at (p .after)); told = rw e (c .tell-stretches .ensures .1) }
 
 pub polar-stretches-spec : {M : Type 1} → statement M
 polar-stretches-spec =

@@ -44,15 +44,15 @@ use Rattle.index.specs.declared.RayRecord.{RayRecord}
 use Rattle.index.specs.declared.Pace.{Pace}
 use Rattle.index.specs.Index.{records}
 use Rattle.index.specs.Pace.{dataIn, Going}
-use Rattle.polar.specs.declared.RayAnswer.{RayAnswer}
+use Rattle.calls.specs.declared.RayAnswer.{RayAnswer}
 use Rattle.records.specs.declared.Task.{Task}
-use Rattle.records.specs.Records.{BuildPromise}
+use Rattle.records.specs.Promises.{BuildPromise}
 use Rattle.records.specs.Building.{laidBy, Begins}
 use Rattle.index.proofs.Pace as P
 use Rattle.index.proofs.Pace.Laws as P′
 use Rattle.index.proofs.RayRecord as R
-use Rattle.polar.proofs.RayAnswer as E
-use Rattle.polar.proofs.RayAnswer.Laws as E′
+use Rattle.calls.proofs.RayAnswer as E
+use Rattle.calls.proofs.RayAnswer.Laws as E′
 use Rattle.records.proofs.Task as B
 use Rattle.records.proofs.Task.Laws as B′
 use Rattle.records.proofs.task_for as task
@@ -135,7 +135,7 @@ module _ {M : Type 1} (𝓤 : URA M) (H : Heap 𝓤) (A : Atoms 𝓤) (W : Given
   exits t zs is beg e size =
       qed W ((‵ (flft κ₀ q₀) ⊛ ‵ (flft κ₁ q₁) ⊛ ‵ ftrue) ∷ ‵ (finally R.the-row γ zs) ∷ ‵ Own ∷ []) ∵
       suffices ! _ (ends-at 𝓤 H A build.ended stayed (build.clauses 𝓤 H A mem run) W ((κs, (q₀, (q₁, tt)), tt, a, vals), tt) (told t) (t .answer) (tt, (tt, (zs, tt))) (tt, (tt, (size, tt)))) $
-      says ! (record { answered = beg .answered; held = e ∙ beg .laid ys }) $ frame ! $
+      says ! (record { answer = beg .answered; after = e ∙ beg .laid ys }) $ frame ! $
       nothing ! $ move ! (1 ∷ 0 ∷ []) $ fjoin ! $ owned ! usize (Is usize) (uint-makes 𝓤 H A W w64) i _ (refl, i-fits) $ fjoin ! $ move ! (1 ∷ 0 ∷ []) $ fjoin ! $
       owned ! E.the-row (Is E.the-row) (EL.makes E.the-type E′.the-plain 𝓤 H A) (t .answer) _ is $ move ! (1 ∷ 0 ∷ []) $ done !
 

@@ -1,59 +1,46 @@
--- By what the walk answers (OnCut.antt); a file that passes every check but 8 has cuts whose data alone may be anything.
-use mathlib.Core.Path.{refl, sym, ap, _∙_}
-use denote.Ref.{now}
-use Rattle.sections.specs.declared.Cut.{Cut}
-use Rattle.layout.specs.Verdict.{anyDataVerdict}
-use Rattle.layout.proofs.GoodCuts.{any-cut}
+-- By the cut that was sought (`calls` Finding.antt); where every check but 8 passes, its data alone may be anything.
+use Rattle.calls.proofs.Finding.{on-found, on-refused, cut-found, any-cut}
+use Rattle.calls.specs.Cuts.{ifWritten}
+use Rattle.records.specs.Records.{fromAnswer, levelsFrom}
 use Rattle.cuts.specs.Records.{rayFrom}
+use Rattle.sections.specs.declared.Cut.{Cut}
 use Rattle.runs.specs.Lent.{front}
-use Rattle.records.specs.Records.{fromAnswer, ifGiven, levelsFrom}
-use Rattle.polar.proofs.OnCut.{on-some, on-none, on-bad, cut-found}
+use denote.Ref.{now}
+use mathlib.Core.Path.{refl, sym, _∙_, ap}
 use borrow.Author.Needs.{needs}
 use Rattle.records.proofs.ray_levels_from.Statement.{statement}
 use Rattle.records.proofs.ray_levels_from.Tie as tie
 
-walk-any-requires : tie.Need-walk-any-requires
-walk-any-requires c κs = search needs
-
-enum-known-f : tie.Need-enum-known-f
-enum-known-f c = search needs
-
 ray-levels-from-on-requires : tie.Need-ray-levels-from-on-requires
-ray-levels-from-on-requires c κs = any-cut _ _ _ (sym (c .before .before .before .before .before .before .before .walk-any .ensures) ∙ c .before .before .before .before .before .f .given .1) (c .before .if1 .taken)
-
-same-length : tie.Need-same-length
-same-length c = search needs
+ray-levels-from-on-requires c κs = let f : tie.After-c = search in
+    let told = sym (f .before .before .find-any .ensures) ∙ f .c .given .1 in
+    any-cut _ _ _ told
 
 returns : tie.Need-returns
 unfolding fromAnswer levelsFrom
-returns c = let a = c .before .before .before .before .before .before .before .before .before .before .before .before .before .args in
-    let s = now (a .file) in
-    let told = sym (c .before .before .before .before .before .before .before .before .before .before .walk-any .ensures) ∙ c .before .before .before .before .before .before .before .before .f .given .1 in
-    let r = c .before .before .ray-levels-from-on in (
-      r .ensures .0 ∙ sym (on-some _ _ _ _ _ _ told (c .before .before .before .before .if1 .taken)),
-      r .ensures .1 ∙ ap (λ (x : Cut). ifGiven (r .result) (front (rayFrom s x (a .rec)) (now (a .out))) (now (a .out))) (sym (cut-found (a .i) (anyDataVerdict s) _ told)),
-    )
-
-enum-known-refusal : tie.Need-enum-known-refusal
-enum-known-refusal c = search needs
+returns c = let f : tie.After-c = search in
+    let told = sym (f .before .before .find-any .ensures) ∙ f .c .given .1 in
+    let s : tie.Start = search in
+    let a = s .args in
+    let k : tie.After-ray-levels-from-on = search in
+    let r = k .ray-levels-from-on in
+    record {
+      answer = r .ensures .0 ∙ sym (on-found _ _ _ _ _ told);
+      after = r .ensures .1 ∙ ap (λ (x : Cut). ifWritten (r .result) (front (rayFrom (now (a .file)) x (a .rec)) (now (a .out))) (now (a .out))) (sym (cut-found _ _ _ told));
+    }
 
 returns-2 : tie.Need-returns-2
 unfolding fromAnswer levelsFrom
-returns-2 c = (sym (on-none _ _ _ _ _ _ (sym (c .before .before .before .before .before .before .walk-any .ensures) ∙ c .before .before .before .before .f .given .1) (c .if1 .left)), refl)
-
-returns-3 : tie.Need-returns-3
-unfolding fromAnswer levelsFrom
-returns-3 c = (sym (on-bad _ _ _ _ _ _ (sym (c .before .before .before .walk-any .ensures) ∙ c .before .refusal .given .1)), refl)
+returns-2 c = record { answer = sym (on-refused _ _ _ _ _ (sym (c .before .before .before .find-any .ensures) ∙ c .before .refusal .given .1)); after = refl }
 
 pub ray-levels-from-spec : {M : Type 1} → statement M
 ray-levels-from-spec =
     tie.close
     (tie.spec
-    walk-any-requires
-    enum-known-f
+    (λ c κs. search needs)
+    (λ c. search needs)
     ray-levels-from-on-requires
-    same-length
+    (λ c. search needs)
+    (λ c. search needs)
     returns
-    enum-known-refusal
-    returns-2
-    returns-3)
+    returns-2)

@@ -7,6 +7,7 @@ use denote.Ref.{now}
 use Rattle.runs.specs.Lent.{front}
 use Rattle.cuts.specs.Records.{rayFrom}
 use Rattle.records.proofs.Answering.{from-none, from-short, from-given, from-not}
+use Rattle.sections.specs.Refusal.{refuse}
 use borrow.Author.Needs.{needs}
 use Rattle.records.proofs.ray_levels_from_on.Statement.{statement}
 use Rattle.records.proofs.ray_levels_from_on.Tie as tie
@@ -18,10 +19,12 @@ bins-in-requires : tie.Need-bins-in-requires
 bins-in-requires c κs = search needs
 
 returns : tie.Need-returns
+unfolding refuse
 returns c = let s = c .before .before .before .before .before in
     (from-none (now (s .args .file)) (s .args .c) _ _ (c .before .before .rays-in .ensures) (c .before .bins-in .ensures) (s .args .ray) (s .args .rec) (length (now (s .args .out))) (c .if1 .taken), refl)
 
 returns-2 : tie.Need-returns-2
+unfolding refuse
 returns-2 c = let s = c .before .before .before .before .before .before in
     (from-short (now (s .args .file)) (s .args .c) _ _ (c .before .before .before .rays-in .ensures) (c .before .before .bins-in .ensures) (s .args .ray) (s .args .rec) (length (now (s .args .out))) (c .before .if1 .left) (c .if2 .taken), refl)
 
@@ -43,6 +46,7 @@ same-length-2 : tie.Need-same-length-2
 same-length-2 c = search needs
 
 returns-4 : tie.Need-returns-4
+unfolding refuse
 returns-4 c = let s = c .before .before .before .before .before .before .before .before .before .before .before in
     let r = c .before .before .before .levels-from in
     let d = now (s .args .out) in (

@@ -1,68 +1,51 @@
--- By what the walk answers (OnCut.antt); a file that passes every check but 8 has cuts whose data alone may be anything.
-use mathlib.Core.Path.{refl, sym, ap, _∙_}
-use denote.Ref.{now}
-use Rattle.sections.specs.declared.Cut.{Cut}
-use Rattle.layout.specs.Verdict.{anyDataVerdict}
-use Rattle.layout.proofs.GoodCuts.{any-cut}
+-- By the cut that was sought (`calls` Finding.antt); where every check but 8 passes, its data alone may be anything.
+use Rattle.calls.proofs.Finding.{on-found, on-refused, cut-found, any-cut}
+use Rattle.calls.specs.Cuts.{ifWritten}
+use Rattle.records.specs.Records.{fromAnswer, marksFrom, valuesFrom}
 use Rattle.cuts.specs.Records.{rayFrom}
 use Rattle.layout.specs.Parts.{productIn}
 use Rattle.values.specs.Ray.{marksOf, valuesOf}
-use Rattle.records.specs.Records.{fromAnswer, ifGiven, marksFrom, valuesFrom}
-use Rattle.polar.proofs.OnCut.{on-some, on-none, on-bad, cut-found}
+use Rattle.sections.specs.declared.Cut.{Cut}
+use denote.Ref.{now}
+use mathlib.Core.Path.{refl, sym, _∙_, ap}
 use borrow.Author.Needs.{needs}
 use Rattle.records.proofs.ray_values_from.Statement.{statement}
 use Rattle.records.proofs.ray_values_from.Tie as tie
 
-walk-any-requires : tie.Need-walk-any-requires
-walk-any-requires c κs = search needs
-
-enum-known-f : tie.Need-enum-known-f
-enum-known-f c = search needs
-
 ray-values-from-on-requires : tie.Need-ray-values-from-on-requires
-ray-values-from-on-requires c κs = any-cut _ _ _ (sym (c .before .before .before .before .before .before .before .before .walk-any .ensures) ∙ c .before .before .before .before .before .before .f .given .1) (c .before .before .if1 .taken)
-
-same-length : tie.Need-same-length
-same-length c = search needs
-
-same-length-2 : tie.Need-same-length-2
-same-length-2 c = search needs
+ray-values-from-on-requires c κs = let f : tie.After-c = search in
+    let told = sym (f .before .before .find-any .ensures) ∙ f .c .given .1 in
+    any-cut _ _ _ told
 
 returns : tie.Need-returns
 unfolding fromAnswer marksFrom valuesFrom
-returns c = let a = c .before .before .before .before .before .before .before .before .before .before .before .before .before .before .before .args in
+returns c = let f : tie.After-c = search in
+    let told = sym (f .before .before .find-any .ensures) ∙ f .c .given .1 in
+    let st : tie.Start = search in
+    let a = st .args in
     let s = now (a .file) in
-    let told = sym (c .before .before .before .before .before .before .before .before .before .before .before .before .walk-any .ensures) ∙ c .before .before .before .before .before .before .before .before .before .before .f .given .1 in
-    let same = sym (cut-found (a .i) (anyDataVerdict s) _ told) in
-    let r = c .before .before .before .ray-values-from-on in (
-      r .ensures .0 ∙ sym (on-some _ _ _ _ _ _ told (c .before .before .before .before .before .before .if1 .taken)),
-      (
-        r .ensures .1 .0 ∙ ap (λ (x : Cut). ifGiven (r .result) (marksOf (productIn s x) (rayFrom s x (a .rec)) (now (a .marks))) (now (a .marks))) same,
-        r .ensures .1 .1 ∙ ap (λ (x : Cut). ifGiven (r .result) (valuesOf (productIn s x) (rayFrom s x (a .rec)) (now (a .values))) (now (a .values))) same,
-      ),
-    )
-
-enum-known-refusal : tie.Need-enum-known-refusal
-enum-known-refusal c = search needs
+    let k : tie.After-ray-values-from-on = search in
+    let r = k .ray-values-from-on in
+    let same = sym (cut-found _ _ _ told) in
+    record {
+      answer = r .ensures .0 ∙ sym (on-found _ _ _ _ _ told);
+      marked = r .ensures .1 .0 ∙ ap (λ (x : Cut). ifWritten (r .result) (marksOf (productIn s x) (rayFrom s x (a .rec)) (now (a .marks))) (now (a .marks))) same;
+      valued = r .ensures .1 .1 ∙ ap (λ (x : Cut). ifWritten (r .result) (valuesOf (productIn s x) (rayFrom s x (a .rec)) (now (a .values))) (now (a .values))) same;
+    }
 
 returns-2 : tie.Need-returns-2
 unfolding fromAnswer marksFrom valuesFrom
-returns-2 c = (sym (on-none _ _ _ _ _ _ (sym (c .before .before .before .before .before .before .walk-any .ensures) ∙ c .before .before .before .before .f .given .1) (c .if1 .left)), (refl, refl))
-
-returns-3 : tie.Need-returns-3
-unfolding fromAnswer marksFrom valuesFrom
-returns-3 c = (sym (on-bad _ _ _ _ _ _ (sym (c .before .before .before .walk-any .ensures) ∙ c .before .refusal .given .1)), (refl, refl))
+returns-2 c = record { answer = sym (on-refused _ _ _ _ _ (sym (c .before .before .before .find-any .ensures) ∙ c .before .refusal .given .1)); marked = refl; valued = refl }
 
 pub ray-values-from-spec : {M : Type 1} → statement M
 ray-values-from-spec =
     tie.close
     (tie.spec
-    walk-any-requires
-    enum-known-f
+    (λ c κs. search needs)
+    (λ c. search needs)
     ray-values-from-on-requires
-    same-length
-    same-length-2
+    (λ c. search needs)
+    (λ c. search needs)
+    (λ c. search needs)
     returns
-    enum-known-refusal
-    returns-2
-    returns-3)
+    returns-2)

@@ -9,6 +9,7 @@ use Rattle.values.specs.Ray.{marksOf, valuesOf}
 use Rattle.layout.specs.Parts.{productIn}
 use Rattle.cuts.specs.Records.{rayFrom}
 use Rattle.records.proofs.Answering.{from-none, from-short, from-given, from-not}
+use Rattle.sections.specs.Refusal.{refuse}
 use borrow.Author.Needs.{needs}
 use Rattle.records.proofs.ray_values_from_on.Statement.{statement}
 use Rattle.records.proofs.ray_values_from_on.Tie as tie
@@ -23,14 +24,17 @@ bins-in-requires : tie.Need-bins-in-requires
 bins-in-requires c κs = search needs
 
 returns : tie.Need-returns
+unfolding refuse
 returns c = let s = c .before .before .before .before .before in
     (from-none (now (s .args .file)) (s .args .c) _ _ (c .before .before .rays-in .ensures) (c .before .bins-in .ensures) (s .args .ray) (s .args .rec) (room s) (c .if1 .taken), (refl, refl))
 
 returns-2 : tie.Need-returns-2
+unfolding refuse
 returns-2 c = let s = c .before .before .before .before .before .before in
     (from-short (now (s .args .file)) (s .args .c) _ _ (c .before .before .before .rays-in .ensures) (c .before .before .bins-in .ensures) (s .args .ray) (s .args .rec) (room s) (c .before .if1 .left) (omega arith), (refl, refl))
 
 returns-3 : tie.Need-returns-3
+unfolding refuse
 returns-3 c = let s = c .before .before .before .before .before .before .before in
     (from-short (now (s .args .file)) (s .args .c) _ _ (c .before .before .before .before .rays-in .ensures) (c .before .before .before .bins-in .ensures) (s .args .ray) (s .args .rec) (room s) (c .before .before .if1 .left) (omega arith), (refl, refl))
 
@@ -63,6 +67,7 @@ same-length-4 : tie.Need-same-length-4
 same-length-4 c = search needs
 
 returns-5 : tie.Need-returns-5
+unfolding refuse
 returns-5 c = let s = c .before .before .before .before .before .before .before .before .before .before .before .before .before .before in
     let f = now (s .args .file) in
     let r = c .before .before .before .before .readings-from in

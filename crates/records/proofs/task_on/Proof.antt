@@ -8,6 +8,7 @@ use Rattle.index.specs.Pace.{Going}
 use Rattle.index.specs.declared.RayRecord.{RayRecord}
 use Rattle.sections.specs.Parts.{raysIn}
 use Rattle.records.proofs.Starts.{build-short, build-fits, none-lays, start-laid}
+use Rattle.sections.specs.Refusal.{refuse}
 use borrow.Author.Needs.{needs}
 use Rattle.records.proofs.task_on.Statement.{statement}
 use Rattle.records.proofs.task_on.Tie as tie
@@ -19,6 +20,7 @@ nothing-laid-requires : tie.Need-nothing-laid-requires
 nothing-laid-requires c κs = search needs
 
 returns : tie.Need-returns
+unfolding refuse
 returns c = let s = c .before .before .before .before in let a = s .args in
     let r = c .nothing-laid .ensures in
     let short : a .room < raysIn (a .file .now) (a .c) = omega (arith, c .before .before .rays-in .ensures, c .before .if1 .taken) in

@@ -2,8 +2,8 @@
 -- the file ask.
 use Rattle.sections.proofs.Framed.{framed-is}
 use Rattle.sections.proofs.Order.{past-three}
-use Rattle.sections.specs.Places.{contextIn}
-use Rattle.sections.specs.Checks.{Context, Own, framed, roomForCut, sectionChecks, checksAt}
+use Rattle.sections.specs.Checks.{Own, framed, roomForCut, sectionChecks, checksAt}
+use Rattle.sections.specs.declared.Context.{Context}
 use Rattle.sections.specs.Verdict.{firstFault}
 use Rattle.walks.specs.Formats.{ownOf}
 use Rattle.rules.specs.Fields.{lengthAt, numberAt, pointsAt}
@@ -22,15 +22,15 @@ use Rattle.walks.proofs.judge_here.Tie as tie
 is-closed-requires : tie.Need-is-closed-requires
 is-closed-requires c κs = search needs
 
-fine-requires : tie.Need-fine-requires
-fine-requires c κs = search needs
+accepted-requires : tie.Need-accepted-requires
+accepted-requires c κs = search needs
 
-unless-requires : tie.Need-unless-requires
-unless-requires c κs = search needs
+check-requires : tie.Need-check-requires
+check-requires c κs = search needs
 
 returns : tie.Need-returns
 unfolding checksAt
-returns c = let a = c .before .before .before .before .before .args in rw (eq-eqb (a .st .at) (a .end) (c .before .before .before .if1 .taken)) (cc)
+returns c = let a = c .before .before .before .before .before .args in rw (eq-eqb (a .at) (a .end) (c .before .before .before .if1 .taken), c .check .ensures, c .before .accepted .ensures, c .before .before .is-closed .ensures)
 
 is-framed-requires : tie.Need-is-framed-requires
 is-framed-requires c κs = search needs
@@ -40,15 +40,15 @@ field8-requires c κs = search needs
 
 -- what both ways to judge a section ask, from its framing
 asked : (c : tie.After-field8) → let s = c .before .before .before .before .before in
-    let at = s .args .st .at in
-    (at + lengthAt (now (s .args .s)) at ≤ length (now (s .args .s))) × (c .field8 .result ≡ 7 → pointsAt (now (s .args .s)) (s .args .st .section3) ≤ 2097152)
+    let at = s .args .at in
+    (at + lengthAt (now (s .args .s)) at ≤ length (now (s .args .s))) × (c .field8 .result ≡ 7 → pointsAt (now (s .args .s)) (s .args .x .section3) ≤ 2097152)
 unfolding numberAt
 asked c = let s = c .before .before .before .before .before in
     let a = s .args in
-    let fr = framed-is (now (a .s)) (a .end) (contextIn (a .st)) (a .st .at) (sym (c .before .before .is-framed .ensures) ∙ c .before .if2 .taken) in
+    let fr = framed-is (now (a .s)) (a .end) (a .x) (a .at) (sym (c .before .before .is-framed .ensures) ∙ c .before .if2 .taken) in
     let reach = fr .reach in
-    let inside = s .pre .end-in in
-    (omega arith, λ (e : c .field8 .result ≡ 7). s .pre .points-in (past-three (a .st .previous) _ (fr .allowed) (omega (arith, sym (c .field8 .ensures) ∙ e))))
+    let inside = s .pre .0 in
+    (omega arith, λ (e : c .field8 .result ≡ 7). s .pre .1 (past-three (a .x .previous) _ (fr .allowed) (omega (arith, sym (c .field8 .ensures) ∙ e))))
 
 judge7-requires : tie.Need-judge7-requires
 judge7-requires c κs = let w = asked (c .before) in
@@ -63,7 +63,7 @@ seven own s end x at h f n = rw (ne-eqb at end h, f, n, and-false)
 returns-2 : tie.Need-returns-2
 unfolding numberAt
 returns-2 c = let a = c .before .before .before .before .before .before .before .args in
-    c .judge7 .ensures ∙ seven (ownOf (a .format)) (now (a .s)) (a .end) (contextIn (a .st)) (a .st .at) (c .before .before .before .before .before .if1 .left) (sym (c .before .before .before .before .is-framed .ensures) ∙ c .before .before .before .if2 .taken) (sym (c .before .before .field8 .ensures) ∙ c .before .if3 .taken)
+    c .judge7 .ensures ∙ seven (ownOf (a .format)) (now (a .s)) (a .end) (a .x) (a .at) (c .before .before .before .before .before .if1 .left) (sym (c .before .before .before .before .is-framed .ensures) ∙ c .before .before .before .if2 .taken) (sym (c .before .before .field8 .ensures) ∙ c .before .if3 .taken)
 
 has-room-requires : tie.Need-has-room-requires
 has-room-requires c κs = search needs
@@ -71,26 +71,29 @@ has-room-requires c κs = search needs
 judge-requires : tie.Need-judge-requires
 judge-requires c κs = (asked (c .before .before) .0, c .before .if3 .left)
 
-unless-requires-2 : tie.Need-unless-requires-2
-unless-requires-2 c κs = search needs
+check-requires-2 : tie.Need-check-requires-2
+check-requires-2 c κs = search needs
 
 returns-3 : tie.Need-returns-3
 unfolding checksAt numberAt
 returns-3 c = let a = c .before .before .before .before .before .before .before .before .before .args in
-    rw (ne-eqb (a .st .at) (a .end) (c .before .before .before .before .before .before .before .if1 .left), sym (c .before .before .before .before .before .before .is-framed .ensures) ∙ c .before .before .before .before .before .if2 .taken) (cc)
+    rw (ne-eqb (a .at) (a .end) (c .before .before .before .before .before .before .before .if1 .left), sym (c .before .before .before .before .before .before .is-framed .ensures) ∙ c .before .before .before .before .before .if2 .taken, c .check2 .ensures, c .before .judge .ensures, c .before .before .has-room .ensures, c .before .before .before .before .field8 .ensures)
+
+refused-requires : tie.Need-refused-requires
+refused-requires c κs = search needs
 
 returns-4 : tie.Need-returns-4
 unfolding checksAt
-returns-4 c = let a = c .before .before .before .before .args in
-    rw (ne-eqb (a .st .at) (a .end) (c .before .before .if1 .left), sym (c .before .is-framed .ensures) ∙ c .if2 .left)
+returns-4 c = let a = c .before .before .before .before .before .args in
+    rw (ne-eqb (a .at) (a .end) (c .before .before .before .if1 .left), sym (c .before .before .is-framed .ensures) ∙ c .before .if2 .left) (c .refused .ensures)
 
 pub judge-here-spec : {M : Type 1} → statement M
 judge-here-spec =
     tie.close
     (tie.spec
     is-closed-requires
-    fine-requires
-    unless-requires
+    accepted-requires
+    check-requires
     returns
     is-framed-requires
     field8-requires
@@ -98,6 +101,7 @@ judge-here-spec =
     returns-2
     has-room-requires
     judge-requires
-    unless-requires-2
+    check-requires-2
     returns-3
+    refused-requires
     returns-4)

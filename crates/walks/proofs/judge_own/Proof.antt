@@ -8,8 +8,7 @@ use borrow.Author.Tests.{ne-eqb}
 use borrow.Author.Needs.{needs}
 use denote.Ref.{now}
 use denote.Enum.Declared.{tagOf}
-use Rattle.sections.specs.Checks.{Context}
-use Rattle.sections.specs.Places.{contextIn}
+use Rattle.sections.specs.declared.Context.{Context}
 use Rattle.layout.specs.Checks as L
 use Rattle.walks.specs.Formats.{ownOf}
 use Rattle.walks.specs.declared.Format.{Format}
@@ -36,7 +35,7 @@ judge-requires-2 c κs = search needs
 
 returns : tie.Need-returns
 returns c = let s = c .before .before .before in
-    rw (sym (same-own (s .args .format) (c .before .match .keys1) (now (s .args .s)) (contextIn (s .args .st)) (s .args .st .at) (s .args .n) (s .pre .1))) (c .judge .ensures)
+    rw (sym (same-own (s .args .format) (c .before .match .keys1) (now (s .args .s)) (s .args .x) (s .args .at) (s .args .n) (s .pre .1))) (c .judge .ensures)
 
 returns-2 : tie.Need-returns-2
 returns-2 c = rw (c .before .enum-told .given .1) (c .judge2 .ensures)

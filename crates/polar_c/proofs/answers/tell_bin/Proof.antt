@@ -25,14 +25,14 @@ element-write-answer-4 c = search needs
 enum-known-told-2 : tie.Need-enum-known-told-2
 enum-known-told-2 c = search needs
 
-ask-place-requires : tie.Need-ask-place-requires
-ask-place-requires c κs = search needs
+place-of-requires : tie.Need-place-of-requires
+place-of-requires c κs = search needs
 
 element-write-answer-5 : tie.Need-element-write-answer-5
 element-write-answer-5 c = search needs
 
-ask-number-requires : tie.Need-ask-number-requires
-ask-number-requires c κs = search needs
+number-of-requires : tie.Need-number-of-requires
+number-of-requires c κs = search needs
 
 returns : tie.Need-returns
 returns c = rw (c .enum-told .given .1) (refl, (refl, refl))
@@ -41,7 +41,7 @@ returns-2 : tie.Need-returns-2
 returns-2 c = rw (c .before .told .given .1) (refl, (refl, refl))
 
 returns-3 : tie.Need-returns-3
-returns-3 c = rw (c .before .before .before .told2 .given .1, c .before .ask-place .ensures) (c .ask-number .ensures, (refl, refl))
+returns-3 c = rw (c .before .before .before .told2 .given .1, c .before .place-of .ensures) (c .number-of .ensures, (refl, refl))
 
 pub tell-bin-spec : {M : Type 1} → statement M
 tell-bin-spec =
@@ -54,9 +54,9 @@ tell-bin-spec =
     element-write-answer-3
     element-write-answer-4
     enum-known-told-2
-    ask-place-requires
+    place-of-requires
     element-write-answer-5
-    ask-number-requires
+    number-of-requires
     returns
     returns-2
     returns-3)

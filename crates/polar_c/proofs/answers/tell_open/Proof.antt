@@ -16,8 +16,8 @@ tell-summary-requires c κs = search needs
 enum-known-told-2 : tie.Need-enum-known-told-2
 enum-known-told-2 c = search needs
 
-file-place-requires : tie.Need-file-place-requires
-file-place-requires c κs = search needs
+place-of-requires : tie.Need-place-of-requires
+place-of-requires c κs = search needs
 
 element-write-answer : tie.Need-element-write-answer
 element-write-answer c = search needs
@@ -29,7 +29,7 @@ returns : tie.Need-returns
 returns c = rw (c .before .before .before .before .before .told .given .1, ← c .before .before .product-number .ensures) (refl, c .tell-summary .ensures)
 
 returns-2 : tie.Need-returns-2
-returns-2 c = rw (c .before .before .before .told2 .given .1, c .before .file-place .ensures) (c .number-of .ensures, refl)
+returns-2 c = rw (c .before .before .before .told2 .given .1, c .before .place-of .ensures) (c .number-of .ensures, refl)
 
 pub tell-open-spec : {M : Type 1} → statement M
 tell-open-spec =
@@ -39,7 +39,7 @@ tell-open-spec =
     product-number-requires
     tell-summary-requires
     enum-known-told-2
-    file-place-requires
+    place-of-requires
     element-write-answer
     number-of-requires
     returns

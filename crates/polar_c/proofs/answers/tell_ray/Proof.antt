@@ -13,20 +13,20 @@ element-write-place c = search needs
 enum-known-told : tie.Need-enum-known-told
 enum-known-told c = search needs
 
-fill-place-requires : tie.Need-fill-place-requires
-fill-place-requires c κs = search needs
+place-of-requires : tie.Need-place-of-requires
+place-of-requires c κs = search needs
 
 element-write-place-2 : tie.Need-element-write-place-2
 element-write-place-2 c = search needs
 
-fill-number-requires : tie.Need-fill-number-requires
-fill-number-requires c κs = search needs
+number-of-requires : tie.Need-number-of-requires
+number-of-requires c κs = search needs
 
 returns : tie.Need-returns
 returns c = rw (c .enum-told .given .1) (refl, refl)
 
 returns-2 : tie.Need-returns-2
-returns-2 c = rw (c .before .before .before .told .given .1, c .before .fill-place .ensures) (c .fill-number .ensures, refl)
+returns-2 c = rw (c .before .before .before .told .given .1, c .before .place-of .ensures) (c .number-of .ensures, refl)
 
 pub tell-ray-spec : {M : Type 1} → statement M
 tell-ray-spec =
@@ -35,8 +35,8 @@ tell-ray-spec =
     enum-told
     element-write-place
     enum-known-told
-    fill-place-requires
+    place-of-requires
     element-write-place-2
-    fill-number-requires
+    number-of-requires
     returns
     returns-2)

@@ -22,20 +22,20 @@ element-write-answer-4 c = search needs
 enum-known-told-2 : tie.Need-enum-known-told-2
 enum-known-told-2 c = search needs
 
-fill-place-requires : tie.Need-fill-place-requires
-fill-place-requires c κs = search needs
+place-of-requires : tie.Need-place-of-requires
+place-of-requires c κs = search needs
 
 element-write-answer-5 : tie.Need-element-write-answer-5
 element-write-answer-5 c = search needs
 
-fill-number-requires : tie.Need-fill-number-requires
-fill-number-requires c κs = search needs
+number-of-requires : tie.Need-number-of-requires
+number-of-requires c κs = search needs
 
 returns : tie.Need-returns
 returns c = rw (c .before .told .given .1) (refl, refl)
 
 returns-2 : tie.Need-returns-2
-returns-2 c = rw (c .before .before .before .told2 .given .1, c .before .fill-place .ensures) (c .fill-number .ensures, refl)
+returns-2 c = rw (c .before .before .before .told2 .given .1, c .before .place-of .ensures) (c .number-of .ensures, refl)
 
 pub tell-stretches-spec : {M : Type 1} → statement M
 tell-stretches-spec =
@@ -47,8 +47,8 @@ tell-stretches-spec =
     element-write-answer-3
     element-write-answer-4
     enum-known-told-2
-    fill-place-requires
+    place-of-requires
     element-write-answer-5
-    fill-number-requires
+    number-of-requires
     returns
     returns-2)

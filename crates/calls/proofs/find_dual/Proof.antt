@@ -1,0 +1,20 @@
+-- What was sought, by what the walk answered.
+use Rattle.calls.proofs.Finding.{sought-walked}
+use Rattle.calls.specs.Cuts.{soughtBy}
+use borrow.Author.Needs.{needs}
+use mathlib.Core.Path.{_∙_, ap}
+use Rattle.calls.proofs.find_dual.Statement.{statement}
+use Rattle.calls.proofs.find_dual.Tie as tie
+
+walk-dual-requires : tie.Need-walk-dual-requires
+walk-dual-requires c κs = search needs
+
+sought-by-requires : tie.Need-sought-by-requires
+sought-by-requires c κs = search needs
+
+returns : tie.Need-returns
+returns c = let s : tie.Start = search in
+    c .sought-by .ensures ∙ ap (soughtBy (s .args .i)) (c .before .walk-dual .ensures) ∙ sought-walked (s .args .i) _
+
+pub find-dual-spec : {M : Type 1} → statement M
+find-dual-spec = tie.close (tie.spec walk-dual-requires sought-by-requires returns)

@@ -1,0 +1,52 @@
+-- "Every file call is lent the whole file and makes all these checks itself. Then 10": what a call on cut i of a file comes to.
+use Prim.Native.Nat.{ℕ}
+use mathlib.Core.List.{List}
+use mathlib.Core.Bool.{cond}
+use lib.Dec.{ltb}
+use lib.ListN.{length, getD}
+use Rattle.sections.specs.Refusal.{refuse}
+use Rattle.sections.specs.Verdict.{Verdict, accepted, refused, noCut}
+use Rattle.layout.specs.Verdict.{verdict, anyDataVerdict}
+use Rattle.sections.specs.declared.Cut.{Cut}
+use Rattle.sections.specs.declared.Refusal.{Refusal}
+use Rattle.sections.specs.declared.Why.the-variants.{Argument}
+use Rattle.walks.specs.declared.Walked.{Walked}
+use Rattle.walks.specs.declared.Walked.the-variants as W
+use Rattle.calls.specs.declared.Sought.{Sought}
+use Rattle.calls.specs.declared.Sought.the-variants as S
+use Rattle.calls.specs.declared.RayAnswer.{RayAnswer}
+use Rattle.calls.specs.declared.RayAnswer.the-variants.{Written, Refused}
+
+-- the file's own refusal; then 10 where the file has no cut i; then what the cut says
+unfoldable pub onCut : {A : Type 0} → (Refusal → A) → (Cut → A) → ℕ → Verdict → A
+onCut bad some i (accepted cs) = cond (ltb i (length cs)) (some (getD cs i noCut)) (bad (refuse Argument 0))
+onCut bad some i (refused r) = bad r
+
+-- a call on the whole file: the file's own refusal; or what it says with the number of cuts and the first cut
+unfoldable pub onFile : {A : Type 0} → (Refusal → A) → (ℕ → Cut → A) → Verdict → A
+onFile bad some (accepted cs) = some (length cs) (getD cs 0 noCut)
+onFile bad some (refused r) = bad r
+
+-- cut i of a file
+unfoldable pub cutAt : ℕ → Verdict → Cut
+cutAt i (accepted cs) = getD cs i noCut
+cutAt i (refused r) = noCut
+
+abbrev pub cutIn : List ℕ → ℕ → Cut
+cutIn s i = cutAt i (verdict s)
+
+abbrev pub cutAnyData : List ℕ → ℕ → Cut
+cutAnyData s i = cutAt i (anyDataVerdict s)
+
+-- lent memory after a call that fills it: what is written, or what it was
+abbrev pub ifWritten : {A : Type 0} → RayAnswer → A → A → A
+ifWritten Written new old = new
+ifWritten (Refused r) new old = old
+
+-- what a call goes by: no promise of a call cites these
+abbrev pub soughtIn : ℕ → Verdict → Sought
+soughtIn = onCut S.Refused S.Cut
+
+abbrev pub soughtBy : ℕ → Walked → Sought
+soughtBy i (W.Accepted f) = cond (ltb i (f .cuts)) (S.Cut (f .cut)) (S.Refused (refuse Argument 0))
+soughtBy i (W.Refused r) = S.Refused r

@@ -1,0 +1,58 @@
+-- What the promises of the calls say of small inputs: each follows from the promise alone, so no program that keeps it can answer otherwise. A promise too weak to fix an answer,
+-- or lent memory, could not prove these.
+use mathlib.Core.Path.{_≡_, ap, _∙_}
+use mathlib.Core.List.{List, [], _∷_}
+use Prim.Native.Nat.{ℕ}
+use Rattle.sections.specs.Refusal.{refuse}
+use Rattle.sections.specs.Verdict.{sized, verdictBy}
+use Rattle.sections.specs.declared.Why.the-variants.{FileSize}
+use Rattle.calls.specs.Cuts.{onFile, onCut}
+use Rattle.calls.specs.declared.RayAnswer.{RayAnswer}
+use Rattle.polar.specs.Opening.{openAnswer}
+use Rattle.polar.specs.Rays.{rayAnswer, levelsAfter}
+use Rattle.polar.specs.Promises.{OpenPromise, LevelsPromise}
+use Rattle.polar.specs.declared.Opened.{Opened}
+use Rattle.polar.specs.declared.Opened.the-variants as O
+use Rattle.runs.specs.Run.{digitSum, levels, gives}
+use Rattle.runs.specs.Read.{readAnswer, readOut, ReadPromise}
+use Rattle.runs.specs.declared.ReadRefusal.the-variants.{VOver253, TooManyBins, WrongBins}
+use Rattle.runs.specs.declared.RunRead.{RunRead}
+use Rattle.runs.specs.declared.RunRead.the-variants as K
+use Rattle.packing.specs.Write.{greatest, written, writeAnswer, WritePromise}
+use Rattle.packing.specs.declared.RunWrite.{RunWrite}
+use Rattle.packing.specs.declared.RunWrite.the-variants.{Wrote}
+
+-- an empty file is refused by 1, at place 0
+pub empty-file : (r : Opened) → OpenPromise [] r → r ≡ O.Refused (refuse FileSize 0)
+unfolding openAnswer onFile verdictBy sized
+empty-file r p = p .answer
+
+-- a ray of an empty file is refused, and the lent octets are what they were
+pub empty-file-ray : (r : RayAnswer) (out : List ℕ) → LevelsPromise [] 0 0 (8 ∷ 9 ∷ []) r out → out ≡ 8 ∷ 9 ∷ []
+unfolding rayAnswer levelsAfter onCut verdictBy sized
+empty-file-ray r out p = p .after ∙ ap (λ (x : RayAnswer). levelsAfter x [] 0 0 (8 ∷ 9 ∷ [])) (p .answer)
+
+-- V = 10: `11 3` opens above V, and is refused by 8
+pub opens-above-v : (r : RunRead) (out : List ℕ) → ReadPromise 10 1 (11 ∷ 3 ∷ []) (0 ∷ []) r out → r ≡ K.Refused WrongBins
+unfolding readAnswer gives
+opens-above-v r out p = p .answered
+
+-- V = 10: `3 11` is one 3. It goes to the front, and the octet past it is what it was
+pub one-three : (r : RunRead) (out : List ℕ) → ReadPromise 10 1 (3 ∷ 11 ∷ []) (9 ∷ 9 ∷ []) r out → out ≡ 3 ∷ 9 ∷ []
+unfolding readAnswer gives levels digitSum
+one-three r out p = p .held ∙ ap (λ (x : RunRead). readOut x (levels 10 (3 ∷ 11 ∷ [])) (9 ∷ 9 ∷ [])) (p .answered)
+
+-- V over 253 is refused by 12, before 10 and 11
+pub v-254 : (r : RunRead) (out : List ℕ) → ReadPromise 254 2097153 (3 ∷ []) (0 ∷ []) r out → r ≡ K.Refused VOver253
+unfolding readAnswer
+v-254 r out p = p .answered
+
+-- n over 2,097,152 is refused by 10, before 11
+pub too-many-wanted : (r : RunRead) (out : List ℕ) → ReadPromise 253 2097153 (3 ∷ []) (0 ∷ []) r out → r ≡ K.Refused TooManyBins
+unfolding readAnswer
+too-many-wanted r out p = p .answered
+
+-- no levels give no octets, under V = 0
+pub no-levels : (r : RunWrite) (out : List ℕ) → WritePromise [] (0 ∷ []) r out → r ≡ Wrote 0 0
+unfolding writeAnswer greatest written
+no-levels r out p = p .answered

@@ -1,0 +1,35 @@
+-- The checks as a chain of `check` are the first that fails.
+use Rattle.rules.specs.Fields.{lengthAt}
+use borrow.Author.Needs.{needs}
+use Rattle.sections.proofs.judge6.Statement.{statement}
+use Rattle.sections.proofs.judge6.Tie as tie
+
+field32-requires : tie.Need-field32-requires
+field32-requires c κs = search needs
+
+fields6-requires : tie.Need-fields6-requires
+fields6-requires c κs = search needs
+
+accepted-requires : tie.Need-accepted-requires
+accepted-requires c κs = search needs
+
+check-requires : tie.Need-check-requires
+check-requires c κs = search needs
+
+check-requires-2 : tie.Need-check-requires-2
+check-requires-2 c κs = search needs
+
+returns : tie.Need-returns
+unfolding lengthAt
+returns c = cc
+
+pub judge6-spec : {M : Type 1} → statement M
+judge6-spec =
+    tie.close
+    (tie.spec
+    field32-requires
+    fields6-requires
+    accepted-requires
+    check-requires
+    check-requires-2
+    returns)
