@@ -32,13 +32,13 @@ extern "C" {
 /* The refusals. */
 #define POLAR_FILE_SIZE 1u      /* the lent file is under 20 or over 8,388,608 octets */
 #define POLAR_SECTION_0 2u      /* section 0 is not as it should be */
-#define POLAR_SECTIONS 3u       /* a section's length or number cannot stand here, or the end is wrong */
+#define POLAR_FRAME 3u          /* a section's length or number cannot stand here, or the end is wrong */
 #define POLAR_SECTION_LENGTH 4u /* a section's own length is wrong */
 #define POLAR_FIELD 5u          /* a named field is outside its rule */
 #define POLAR_POINTS 6u         /* the point count in section 3 or 5 is not Nb x Nr */
-#define POLAR_VALUES 7u         /* the value table differs from the published one */
+#define POLAR_TABLE 7u          /* the value table differs from the published one */
 #define POLAR_DATA 8u           /* data opens above V, or gives more or fewer bins than wanted */
-#define POLAR_CUTS 9u           /* a section 3 or 4 begins a 65th cut */
+#define POLAR_CUT_COUNT 9u      /* a section 3 or 4 begins a 65th cut */
 #define POLAR_ARGUMENT 10u      /* an argument is outside its range */
 #define POLAR_ROOM 11u          /* the lent room is too short */
 #define POLAR_V 12u             /* V is over 253 */

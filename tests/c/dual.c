@@ -61,7 +61,7 @@ static void refusals(void)
 
     CHECK(polar_dual_open(file, 19, answer) == POLAR_FILE_SIZE && answer[0] == 0);
     CHECK(polar_dual_open(file, len - 1, answer) == POLAR_SECTION_0 && answer[0] == 0);
-    CHECK(spoiled(SECTION_4, 5, 5, &place) == POLAR_SECTIONS && place == SECTION_4);
+    CHECK(spoiled(SECTION_4, 5, 5, &place) == POLAR_FRAME && place == SECTION_4);
     CHECK(spoiled(SECTION_3, 53, 0, &place) == POLAR_SECTION_LENGTH && place == SECTION_3);
     CHECK(spoiled(SECTION_1, 15, 13, &place) == POLAR_FIELD && place == SECTION_1);
     CHECK(spoiled(SECTION_5, 19, 5, &place) == POLAR_FIELD && place == SECTION_5);

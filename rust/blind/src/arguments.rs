@@ -1,5 +1,5 @@
 //! What is asked for on the command line.
-use polar::{Kind, HOUSE_THRESHOLD};
+use polar::{Kind, Threshold};
 
 pub const HELP: &str = "\
 blind [OPTION]... FILE...: what a radar saw of each ray, and where it was blind
@@ -34,8 +34,7 @@ pub enum Form {
 #[derive(Debug, PartialEq, Eq)]
 pub struct Arguments {
     pub files: Vec<String>,
-    /// in hundredths
-    pub threshold: i32,
+    pub threshold: Threshold,
     pub kinds: Vec<Kind>,
     pub cut: Option<usize>,
     pub totals_only: bool,
@@ -71,7 +70,7 @@ fn hundredths(text: &str) -> Option<i32> {
 pub fn parse(words: impl Iterator<Item = String>) -> Result<Asked, String> {
     let mut asked = Arguments {
         files: vec![],
-        threshold: HOUSE_THRESHOLD,
+        threshold: Threshold::HOUSE,
         kinds: vec![],
         cut: None,
         totals_only: false,
@@ -104,12 +103,13 @@ pub fn parse(words: impl Iterator<Item = String>) -> Result<Asked, String> {
             "--" => options = false,
             "--threshold" => {
                 let text = value()?;
+                let threshold = hundredths(&text).and_then(|n| Threshold::from_hundredths(n).ok());
                 asked.threshold =
-                    hundredths(&text).ok_or(format!("{text}: a threshold is a number from -327.67 to 327.67 with up to two decimals"))?;
+                    threshold.ok_or(format!("{text}: a threshold is a number from -327.67 to 327.67 with up to two decimals"))?;
             }
             "--kind" => {
                 let text = value()?;
-                let kind = Kind::ALL.into_iter().find(|kind| kind.to_string() == text);
+                let kind = Kind::ALL.iter().copied().find(|kind| kind.to_string() == text);
                 asked.kinds.push(kind.ok_or(format!("{text}: a kind is missing, under or over"))?);
             }
             "--cut" => {
@@ -172,7 +172,7 @@ mod tests {
         let Ok(Asked::List(asked)) = parsed("--threshold=-5 --kind missing --kind over --cut 2 --json a -") else {
             panic!("sound options")
         };
-        assert_eq!((asked.threshold, asked.cut, asked.form), (-500, Some(2), Form::Json));
+        assert_eq!((asked.threshold.hundredths().0, asked.cut, asked.form), (-500, Some(2), Form::Json));
         assert_eq!((asked.kinds, asked.files), (vec![Kind::Missing, Kind::Over], vec!["a".to_string(), "-".into()]));
         let Ok(Asked::List(asked)) = parsed("-- --csv") else { panic!("a file named --csv") };
         assert_eq!((asked.files, asked.form), (vec!["--csv".to_string()], Form::Text));

@@ -54,7 +54,7 @@ fn dual_cuts<'a>(octets: &'a [u8], asked: &Arguments) -> Result<(dual::File<'a>,
 
 fn draw(cut: Cut, asked: &Arguments) -> Result<(), Problem> {
     let Some(out) = &asked.svg else { return Ok(()) };
-    let drawing = svg::drawing(&CutSurvey::new(cut, asked.threshold)?);
+    let drawing = svg::drawing(&CutSurvey::new(cut, asked.threshold));
     fs::write(out, drawing).map_err(|why| Problem::Undrawn(out.clone(), why))
 }
 
@@ -67,10 +67,7 @@ fn list_base(path: &str, octets: &[u8], asked: &Arguments, report: &mut Report<i
     };
     report.file(path, &file)?;
     for cut in &cuts {
-        match CutSurvey::new(*cut, asked.threshold) {
-            Ok(survey) => report.cut(path, &survey)?,
-            Err(refusal) => return Ok(Err(refusal.into())),
-        }
+        report.cut(path, &CutSurvey::new(*cut, asked.threshold))?;
     }
     report.file_end()?;
     Ok(draw(cuts[0], asked))

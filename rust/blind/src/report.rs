@@ -3,7 +3,7 @@ mod dual;
 mod values;
 
 use crate::arguments::{Arguments, Form};
-use crate::survey::{CutSurvey, Hundredths, Problem};
+use crate::survey::{CutSurvey, Problem};
 use crate::values::Values;
 use polar::{File, Format, Kind, Stretch};
 use std::io::{self, Write};
@@ -130,26 +130,20 @@ impl<'a, W: Write> Report<'a, W> {
 
     fn cut_as_text(&mut self, survey: &CutSurvey) -> io::Result<()> {
         let cut = &survey.cut;
-        let elevation =
-            cut.elevation().map_or("unknown elevation".into(), |angle| format!("elevation {} degrees", Hundredths(angle.into())));
-        let (rays, bins, unit) = (cut.ray_count(), cut.bin_count(), cut.file().product().unit());
-        writeln!(
-            self.out,
-            "cut {}: {elevation}, {rays} rays of {bins} bins, threshold {} {unit}",
-            cut.index(),
-            Hundredths(survey.threshold)
-        )?;
+        let elevation = cut.elevation().map_or("unknown elevation".into(), |angle| format!("elevation {angle} degrees"));
+        let (rays, bins, unit) = (cut.grid().rays, cut.grid().bins, cut.file().product().unit());
+        writeln!(self.out, "cut {}: {elevation}, {rays} rays of {bins} bins, threshold {} {unit}", cut.index(), survey.threshold)?;
         if self.asked.values {
             self.values_as_text(&Values::of_base(cut), unit)?;
         } else if !self.asked.totals_only {
             writeln!(self.out, "  ray  azimuth  first  bins   from km     to km  kind")?;
         }
         for stretch in self.wanted(survey) {
-            let Stretch { ray, first, length, kind } = *stretch;
+            let Stretch { ray, first, length, kind, .. } = *stretch;
             let (from, to) = (survey.distance(first) / 1000.0, survey.distance(first + length) / 1000.0);
             writeln!(self.out, "{ray:>5} {:>8.2} {first:>6} {length:>5} {from:>9.3} {to:>9.3}  {kind}", survey.azimuth(ray))?;
         }
-        for kind in Kind::ALL {
+        for kind in Kind::ALL.iter().copied() {
             writeln!(self.out, "total {kind:<7} {:>8} bins {:>6.2} %", survey.bins(kind), survey.percent(kind))?;
         }
         Ok(())
@@ -161,12 +155,12 @@ impl<'a, W: Write> Report<'a, W> {
             self.values_as_csv(path, index, &Values::of_base(&survey.cut))?;
         }
         for stretch in self.wanted(survey) {
-            let Stretch { ray, first, length, kind } = *stretch;
+            let Stretch { ray, first, length, kind, .. } = *stretch;
             let (from, to) = (survey.distance(first), survey.distance(first + length));
             writeln!(self.out, "{path},{index},{ray},{first},{length},{kind},{:.2},{from:.3},{to:.3}", survey.azimuth(ray))?;
         }
         if self.asked.totals_only {
-            for kind in Kind::ALL {
+            for kind in Kind::ALL.iter().copied() {
                 writeln!(self.out, "{path},{index},{kind},{},{:.2}", survey.bins(kind), survey.percent(kind))?;
             }
         }
@@ -175,28 +169,26 @@ impl<'a, W: Write> Report<'a, W> {
 
     fn cut_as_json(&mut self, survey: &CutSurvey) -> io::Result<()> {
         let cut = &survey.cut;
-        let elevation = cut.elevation().map_or("null".into(), |angle| Hundredths(angle.into()).to_string());
+        let elevation = cut.elevation().map_or("null".into(), |angle| angle.to_string());
         let comma = if self.cuts_before { "," } else { "" };
         write!(
             self.out,
             "{comma}\n {{\"cut\":{},\"elevation\":{elevation},\"bins\":{},\"rays\":{},",
             cut.index(),
-            cut.bin_count(),
-            cut.ray_count()
+            cut.grid().bins,
+            cut.grid().rays
         )?;
-        write!(
-            self.out,
-            "\"start_azimuth\":{},\"spacing_m\":{},",
-            Hundredths(cut.start_azimuth().into()),
-            f64::from(cut.spacing()) / 1000.0
-        )?;
-        write!(self.out, "\"threshold\":{},", Hundredths(survey.threshold))?;
+        write!(self.out, "\"start_azimuth\":{},\"spacing_m\":{},", cut.start_azimuth(), f64::from(cut.grid().spacing_mm) / 1000.0)?;
+        write!(self.out, "\"threshold\":{},", survey.threshold)?;
         if self.asked.values {
             self.values_as_json(&Values::of_base(cut))?;
         } else {
             self.stretches_as_json(survey)?;
         }
-        let totals = Kind::ALL.map(|kind| format!("\"{kind}\":{{\"bins\":{},\"percent\":{:.2}}}", survey.bins(kind), survey.percent(kind)));
+        let totals: Vec<String> = Kind::ALL
+            .iter()
+            .map(|kind| format!("\"{kind}\":{{\"bins\":{},\"percent\":{:.2}}}", survey.bins(*kind), survey.percent(*kind)))
+            .collect();
         write!(self.out, ",\n  \"totals\":{{{}}}}}", totals.join(","))
     }
 
@@ -204,7 +196,7 @@ impl<'a, W: Write> Report<'a, W> {
         write!(self.out, "\"stretches\":[")?;
         let mut separator = "";
         for stretch in self.wanted(survey) {
-            let Stretch { ray, first, length, kind } = stretch;
+            let Stretch { ray, first, length, kind, .. } = stretch;
             write!(self.out, "{separator}\n  {{\"ray\":{ray},\"first\":{first},\"length\":{length},\"kind\":\"{kind}\"}}")?;
             separator = ",";
         }

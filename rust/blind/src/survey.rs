@@ -1,5 +1,5 @@
 //! A cut's stretches with where they lie, and its totals.
-use polar::{Cut, Kind, Refusal, Stretch};
+use polar::{Cut, Kind, Refusal, Stretch, Threshold};
 use std::fmt;
 use std::io;
 
@@ -37,39 +37,38 @@ impl fmt::Display for Problem {
 /// One cut: its stretches at a threshold, and how many bins are of each kind.
 pub struct CutSurvey<'a> {
     pub cut: Cut<'a>,
-    /// in hundredths
-    pub threshold: i32,
+    pub threshold: Threshold,
     pub stretches: Vec<Stretch>,
     /// by kind, in the order of [`Kind::ALL`]
-    totals: [usize; 3],
+    totals: Vec<usize>,
 }
 
 impl<'a> CutSurvey<'a> {
-    pub fn new(cut: Cut<'a>, threshold: i32) -> Result<Self, Refusal> {
-        let stretches: Vec<Stretch> = cut.stretches(threshold)?.collect();
+    pub fn new(cut: Cut<'a>, threshold: Threshold) -> Self {
+        let stretches: Vec<Stretch> = cut.stretches(threshold).collect();
         let total = |kind| stretches.iter().filter(|s| s.kind == kind).map(|s| s.length).sum();
-        let totals = Kind::ALL.map(total);
-        Ok(CutSurvey { cut, threshold, stretches, totals })
+        let totals = Kind::ALL.iter().copied().map(total).collect();
+        CutSurvey { cut, threshold, stretches, totals }
     }
 
     /// How many bins are of this kind.
     pub fn bins(&self, kind: Kind) -> usize {
-        self.totals[kind as usize]
+        self.totals[kind.number()]
     }
 
     /// How many of a hundred bins are of this kind.
     pub fn percent(&self, kind: Kind) -> f64 {
-        100.0 * self.bins(kind) as f64 / (self.cut.bin_count() * self.cut.ray_count()) as f64
+        100.0 * self.bins(kind) as f64 / self.cut.grid().points() as f64
     }
 
     /// The angle of one ray, in degrees.
     pub fn ray_width(&self) -> f64 {
-        360.0 / self.cut.ray_count() as f64
+        360.0 / self.cut.grid().rays as f64
     }
 
     /// Where a ray starts, in degrees from north by the east. The ray past the last starts where the last one ends.
     pub fn ray_start(&self, ray: usize) -> f64 {
-        f64::from(self.cut.start_azimuth()) / 100.0 + ray as f64 * self.ray_width()
+        self.cut.start_azimuth().to_f64() + ray as f64 * self.ray_width()
     }
 
     /// The azimuth of a ray's middle, in degrees from 0 to 360.
@@ -79,17 +78,6 @@ impl<'a> CutSurvey<'a> {
 
     /// The distance in metres at which a bin begins. The bin past the last begins where the last one ends.
     pub fn distance(&self, bin: usize) -> f64 {
-        (f64::from(self.cut.start()) + bin as f64 * f64::from(self.cut.spacing())) / 1000.0
-    }
-}
-
-/// A number of hundredths, with its two decimals.
-pub struct Hundredths(pub i32);
-
-impl fmt::Display for Hundredths {
-    fn fmt(&self, f: &mut fmt::Formatter<'_>) -> fmt::Result {
-        let sign = if self.0 < 0 { "-" } else { "" };
-        let size = self.0.unsigned_abs();
-        write!(f, "{sign}{}.{:02}", size / 100, size % 100)
+        self.cut.grid().distance_mm(bin) as f64 / 1000.0
     }
 }

@@ -1,5 +1,5 @@
 //! A cut as the radar sees it, drawn: rays by azimuth, bins by distance; blind grey, under blue, over red.
-use crate::survey::{CutSurvey, Hundredths};
+use crate::survey::CutSurvey;
 use polar::{Kind, Stretch};
 use std::fmt::Write;
 
@@ -17,6 +17,8 @@ fn colour(kind: Kind) -> &'static str {
         Kind::Missing => "#9a9a9a",
         Kind::Under => "#a9cdf0",
         Kind::Over => "#d62728",
+        // never the colour of another kind: a test holds that none of today's comes here
+        _ => "#000000",
     }
 }
 
@@ -25,6 +27,7 @@ fn meaning(kind: Kind) -> &'static str {
         Kind::Missing => "blind: missing or out of range",
         Kind::Under => "under the threshold",
         Kind::Over => "at or over the threshold",
+        _ => "of another kind",
     }
 }
 
@@ -45,7 +48,7 @@ fn sectors(stretches: &[Stretch], widest: usize) -> Vec<Sector> {
     let (mut open, mut current): (Vec<Sector>, Vec<Sector>) = (vec![], vec![]);
     for of_ray in stretches.chunk_by(|a, b| a.ray == b.ray) {
         for stretch in of_ray {
-            let Stretch { ray, first, length, kind } = *stretch;
+            let Stretch { ray, first, length, kind, .. } = *stretch;
             let alone = Sector { kind, from: ray, to: ray + 1, first, end: first + length };
             let same = |s: &Sector| (s.kind, s.first, s.end) == (kind, first, first + length) && s.to == ray && s.to - s.from < widest;
             current.push(match open.iter().position(same) {
@@ -135,12 +138,12 @@ fn add_rings(svg: &mut String, plane: &Plane, reach: f64) {
 
 fn add_words(svg: &mut String, survey: &CutSurvey) {
     let (cut, file) = (&survey.cut, survey.cut.file());
-    let elevation = cut.elevation().map_or("elevation unknown".into(), |angle| format!("elevation {}°", Hundredths(angle.into())));
+    let elevation = cut.elevation().map_or("elevation unknown".into(), |angle| format!("elevation {angle}°"));
     let title = format!("site {}, {}, {}", file.site(), file.product(), file.time());
-    let under = format!("cut {}, {elevation}, threshold {} {}", cut.index(), Hundredths(survey.threshold), file.product().unit());
+    let under = format!("cut {}, {elevation}, threshold {} {}", cut.index(), survey.threshold, file.product().unit());
     let _ = writeln!(svg, "<text x=\"30\" y=\"38\" font-size=\"20\" fill=\"{INK}\">{title}</text>");
     let _ = writeln!(svg, "<text x=\"30\" y=\"62\" font-size=\"15\" fill=\"{INK}\">{under}</text>");
-    for (kind, x) in Kind::ALL.into_iter().zip([30.0, 335.0, 600.0]) {
+    for (kind, x) in Kind::ALL.iter().copied().zip([30.0, 335.0, 600.0]) {
         let _ = writeln!(svg, "<rect x=\"{x}\" y=\"969\" width=\"14\" height=\"14\" fill=\"{}\"/>", colour(kind));
         let _ = writeln!(
             svg,
@@ -155,14 +158,14 @@ fn add_words(svg: &mut String, survey: &CutSurvey) {
 /// The whole drawing.
 pub fn drawing(survey: &CutSurvey) -> String {
     let cut = &survey.cut;
-    let reach = survey.distance(cut.bin_count());
+    let reach = survey.distance(cut.grid().bins);
     let plane = Plane { scale: REACH / reach };
     // a quarter of a turn at most, so that an arc goes the short way
-    let sectors = sectors(&survey.stretches, (cut.ray_count() / 4).max(1));
+    let sectors = sectors(&survey.stretches, (cut.grid().rays / 4).max(1));
     let mut svg = String::new();
     let _ = writeln!(svg, "<svg xmlns=\"http://www.w3.org/2000/svg\" viewBox=\"0 0 {WIDTH} {HEIGHT}\" font-family=\"sans-serif\">");
     let _ = writeln!(svg, "<rect width=\"{WIDTH}\" height=\"{HEIGHT}\" fill=\"{PAPER}\"/>");
-    for kind in Kind::ALL {
+    for kind in Kind::ALL.iter().copied() {
         add_kind(&mut svg, &plane, survey, &sectors, kind);
     }
     add_rings(&mut svg, &plane, reach);
@@ -176,7 +179,7 @@ mod tests {
 
     #[test]
     fn like_stretches_of_neighbouring_rays_are_one_sector() {
-        let stretch = |ray, first, length, kind| Stretch { ray, first, length, kind };
+        let stretch = Stretch::new;
         let stretches = [
             stretch(0, 0, 2, Kind::Under),
             stretch(0, 2, 3, Kind::Missing),
@@ -193,6 +196,14 @@ mod tests {
         // and no bin is lost
         let bins = |sectors: &[Sector]| sectors.iter().map(|s| (s.to - s.from) * (s.end - s.first)).sum::<usize>();
         assert_eq!((bins(&sectors(&stretches, 2)), bins(&found)), (15, 15));
+    }
+
+    #[test]
+    fn every_kind_has_its_own_colour_and_meaning() {
+        for kind in Kind::ALL {
+            assert_ne!((colour(*kind), meaning(*kind)), ("#000000", "of another kind"));
+            assert_eq!(Kind::ALL.iter().filter(|k| colour(**k) == colour(*kind) || meaning(**k) == meaning(*kind)).count(), 1);
+        }
     }
 
     #[test]

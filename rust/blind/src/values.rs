@@ -1,5 +1,5 @@
 //! The values of a cut, bin by bin, and how they are written.
-use polar::{dual, Cut};
+use polar::{dual, Bin, Cut};
 use std::fmt;
 
 /// The value of each bin, ray by ray; none where it is missing.
@@ -21,13 +21,14 @@ const MOST_DECIMALS: usize = 6;
 
 impl Values {
     pub fn of_base(cut: &Cut) -> Values {
-        let cells = cut.rays().flat_map(|ray| ray.values().map(|value| value.map(|v| f64::from(v) / 100.0)).collect::<Vec<_>>());
-        Values { bins: cut.bin_count(), cells: cells.collect() }
+        let in_units = |bin: &Bin<polar::Hundredths>| bin.measured().map(|hundredths| hundredths.to_f64());
+        let cells = cut.rays().flat_map(|ray| ray.bins().iter().map(in_units).collect::<Vec<_>>());
+        Values { bins: cut.grid().bins, cells: cells.collect() }
     }
 
     pub fn of_dual(cut: &dual::Cut) -> Values {
-        let cells = cut.rays().flat_map(|ray| ray.values().collect::<Vec<_>>());
-        Values { bins: cut.bin_count(), cells: cells.collect() }
+        let cells = cut.rays().flat_map(|ray| ray.bins().iter().map(|bin| bin.measured()).collect::<Vec<_>>());
+        Values { bins: cut.grid().bins, cells: cells.collect() }
     }
 
     /// All bins.

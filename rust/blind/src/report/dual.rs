@@ -77,17 +77,17 @@ impl<W: Write> Report<'_, W> {
     }
 
     fn dual_cut_as_text(&mut self, cut: &Cut, values: &Values) -> io::Result<()> {
-        let unit = cut.file().parameter().unit().unwrap_or("");
+        let (unit, grid) = (cut.file().parameter().unit().unwrap_or(""), cut.grid());
         writeln!(
             self.out,
             "cut {}: {} rays of {} bins of {} m from {} m, centre at latitude {}, longitude {}",
             cut.index(),
-            cut.ray_count(),
-            cut.bin_count(),
-            metres(cut.spacing()),
-            metres(cut.start()),
-            Millionths(cut.latitude()),
-            Millionths(cut.longitude())
+            grid.rays,
+            grid.bins,
+            metres(grid.spacing_mm),
+            metres(grid.start_mm),
+            Millionths(grid.latitude_microdegrees),
+            Millionths(grid.longitude_microdegrees)
         )?;
         if self.asked.values {
             self.values_as_text(values, unit)?;
@@ -120,10 +120,16 @@ impl<W: Write> Report<'_, W> {
 
     fn dual_cut_as_json(&mut self, cut: &Cut, values: &Values) -> io::Result<()> {
         let comma = if self.cuts_before { "," } else { "" };
-        let (index, bins, rays) = (cut.index(), cut.bin_count(), cut.ray_count());
+        let (index, grid) = (cut.index(), cut.grid());
+        let (bins, rays) = (grid.bins, grid.rays);
         write!(self.out, "{comma}\n {{\"cut\":{index},\"bins\":{bins},\"rays\":{rays},")?;
-        write!(self.out, "\"latitude\":{},\"longitude\":{},", Millionths(cut.latitude()), Millionths(cut.longitude()))?;
-        write!(self.out, "\"spacing_m\":{},\"start_m\":{},", metres(cut.spacing()), metres(cut.start()))?;
+        write!(
+            self.out,
+            "\"latitude\":{},\"longitude\":{},",
+            Millionths(grid.latitude_microdegrees),
+            Millionths(grid.longitude_microdegrees)
+        )?;
+        write!(self.out, "\"spacing_m\":{},\"start_m\":{},", metres(grid.spacing_mm), metres(grid.start_mm))?;
         if self.asked.values {
             self.values_as_json(values)?;
             write!(self.out, ",")?;
