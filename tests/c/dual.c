@@ -1,9 +1,7 @@
 /* The dual-polarisation calls from C on samples/dual.bin, whose path is the first argument. */
 #include "check.h"
 #include "polar.h"
-
-static uint8_t file[65536];
-static size_t len;
+#include "sample.h"
 
 /* Where the sample's sections begin: 1, then 3, 4, 5, 6, 7 of its first cut. */
 enum { SECTION_1 = 16, SECTION_3 = 37, SECTION_4 = 607, SECTION_5 = 1182, SECTION_7 = 1209 };
@@ -104,14 +102,8 @@ static void values(void)
 
 int main(int argc, char **argv)
 {
-    FILE *sample = argc > 1 ? fopen(argv[1], "rb") : NULL;
-
-    if (sample == NULL) {
-        puts("no sample file");
+    if (!read_sample(argc, argv))
         return 2;
-    }
-    len = fread(file, 1, sizeof file, sample);
-    fclose(sample);
     opening();
     refusals();
     values();

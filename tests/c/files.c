@@ -1,11 +1,9 @@
 /* The file calls from C on the sample of document 01, whose path is the first argument. */
 #include "check.h"
 #include "polar.h"
+#include "sample.h"
 
 #include <string.h>
-
-static uint8_t file[1024];
-static size_t len;
 
 static void opening(void)
 {
@@ -94,14 +92,8 @@ static void stretches(void)
 
 int main(int argc, char **argv)
 {
-    FILE *sample = argc > 1 ? fopen(argv[1], "rb") : NULL;
-
-    if (sample == NULL) {
-        puts("no sample file");
+    if (!read_sample(argc, argv))
         return 2;
-    }
-    len = fread(file, 1, sizeof file, sample);
-    fclose(sample);
     opening();
     rays();
     stretches();
