@@ -1,4 +1,4 @@
-/* The index and the calls by a record from C on the sample of document 01, whose path is the first argument. */
+/* The index and the calls by a record from C on samples/document01.bin, whose path is the first argument. */
 #include "check.h"
 #include "polar.h"
 #include "sample.h"
@@ -27,6 +27,7 @@ static void building(void)
 
     CHECK(polar_build_index(file, len, 0, records, 1, place) == POLAR_ROOM && place[0] == 0);
     CHECK(polar_build_index(file, len, 1, records, 0, place) == POLAR_ARGUMENT && place[0] == 0);
+    CHECK(polar_build_index(file, len, 0, NULL, 0, place) == POLAR_ROOM && place[0] == 0);
     CHECK(polar_build_index(file, len - 1, 0, records, 3, place) == POLAR_SECTION_0 && place[0] == 0);
     /* a bin too few */
     file[DATA + 1] = 131;

@@ -39,7 +39,8 @@ pub enum Reason {
 }
 
 impl Reason {
-    const ALL: [Reason; 14] = [
+    /// All reasons, in the order of their numbers.
+    pub const ALL: &'static [Reason] = &[
         Reason::FileSize,
         Reason::Section0,
         Reason::Frame,
@@ -100,7 +101,7 @@ impl Refusal {
         if number == 0 {
             return Ok(());
         }
-        let reason = Reason::ALL.into_iter().find(|reason| reason.number() == number).expect("a refusal's number");
+        let reason = *Reason::ALL.iter().find(|reason| reason.number() == number).expect("a refusal's number");
         Err(Refusal { reason, place })
     }
 
@@ -134,7 +135,7 @@ mod tests {
 
     #[test]
     fn numbers_and_reasons_belong_together() {
-        for (reason, number) in Reason::ALL.into_iter().zip(1..=14) {
+        for (reason, number) in Reason::ALL.iter().copied().zip(1..) {
             assert_eq!(reason.number(), number);
             assert_eq!(Refusal::check(number, 7), Err(Refusal { reason, place: 7 }));
         }
