@@ -1,4 +1,4 @@
-/* The bare run calls from C: "Checked examples", and what stays unchanged; what the header offers besides calls. */
+/* The bare run calls from C: FORMAT.md, "Checked examples", and what stays unchanged; what the header offers besides calls. */
 #include "check.h"
 #include "polar.h"
 

@@ -1,4 +1,4 @@
-//! Refusals: document 01's numbers and those of wishes 4 and 6, by name.
+//! Refusals by name: FORMAT.md, "Refusals".
 use std::error::Error;
 use std::fmt;
 

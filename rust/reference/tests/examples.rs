@@ -1,4 +1,4 @@
-//! Document 01's "Checked examples" and the stated cases, on this reader.
+//! FORMAT.md, "Checked examples", and the stated cases, on this reader.
 use reference::layout::verdict;
 use reference::{calls, cases, lister, maker, stretches};
 
