@@ -186,8 +186,8 @@ uint32_t polar_run_read(const uint8_t *octets, size_t octets_len, uint8_t v, siz
  * Run write: writes the octets of `n` levels at the front of `octets`, which has room for `room`. Read back under the V
  * that it answers, they give the same levels.
  * answer: place, V, number of octets (POLAR_RUN_*).
- * Refusals, in this order: 10 where n is over POLAR_MOST_LEVELS or a level over POLAR_MOST_LEVEL; 11 where room is under
- * the exact length.
+ * Refusals, in this order: 10 where n is over POLAR_MOST_LEVELS or a level over POLAR_MOST_LEVEL; 11 where room is
+ * under the exact length.
  */
 uint32_t polar_run_write(const uint8_t *levels, size_t n, uint8_t *octets, size_t room, uint64_t answer[3]);
 
@@ -203,8 +203,8 @@ uint32_t polar_open(const uint8_t *file, size_t len, uint64_t answer[10]);
 /*
  * Cut: what sections 3 and 4 say of one cut.
  * answer (POLAR_CUT_*): place; Nb, bins on a ray; Nr, rays; latitude and longitude in 10^-6 degrees; Dx, the bins'
- * spacing, and Dstart, both in 10^-3 m; start azimuth in 10^-2 degrees; octet 38, the mode of operation (0, 1, 2, or 255
- * missing); 1 where the elevation is known and 0 where it is missing; the elevation constant in 10^-2 degrees.
+ * spacing, and Dstart, both in 10^-3 m; start azimuth in 10^-2 degrees; octet 38, the mode of operation (0, 1, 2, or
+ * 255 missing); 1 where the elevation is known and 0 where it is missing; the elevation constant in 10^-2 degrees.
  * Where the elevation is missing its word is UNCHANGED: look at POLAR_CUT_ELEVATION_KNOWN first.
  * Refusal 10: cut.
  */
@@ -265,8 +265,8 @@ uint32_t polar_ray_values_from(const uint8_t *file, size_t len, size_t cut, size
                                size_t values_room, uint64_t place[1]);
 
 /*
- * Bin value: sets *value to the value, the whole hundredths taken over exactly and divided once by 100, where the bin is
- * measured.
+ * Bin value: sets *value to the value, the whole hundredths taken over exactly and divided once by 100, where the bin
+ * is measured.
  * answer: place, mark (POLAR_BIN_MARK).
  * Where the bin is missing *value is UNCHANGED: look at the mark first, and set *value to POLAR_NO_VALUE_DOUBLE
  * beforehand.
