@@ -105,7 +105,7 @@ static inline const char *polar_refusal_text(uint32_t number)
 #define POLAR_MOST_LEVELS 2097152u  /* levels of a run call */
 #define POLAR_MOST_LEVEL 252u       /* the greatest level that is written */
 #define POLAR_MOST_V 253u           /* the greatest V that is read under */
-#define POLAR_LEAST_THRESHOLD -32767
+#define POLAR_LEAST_THRESHOLD (-32767)
 #define POLAR_MOST_THRESHOLD 32767
 
 /* The threshold of polar_house_stretches, in hundredths. */

@@ -16,7 +16,8 @@ fn numbers(header: &str) -> BTreeMap<String, i64> {
     let define = |line: &str| {
         let mut words = line.strip_prefix("#define POLAR_")?.split_whitespace();
         let (name, number) = (words.next()?, words.next()?);
-        Some((name.to_string(), number.trim_end_matches('u').parse().ok()?))
+        let number = number.trim_start_matches('(').trim_end_matches(['u', ')']);
+        Some((name.to_string(), number.parse().ok()?))
     };
     header.lines().filter_map(define).collect()
 }
