@@ -81,3 +81,17 @@ fn parameters_of_the_table() {
     }
     assert_eq!((Parameter::new(200).abbreviation(), Parameter::new(255).unit()), (None, None));
 }
+
+/// The rules list the same parameters, in the same words.
+#[test]
+fn parameters_of_the_rules() {
+    let rules = include_str!("../../../docs/FORMAT.md");
+    let list =
+        rules.split("**Parameters.** Octet 11 of section 4: ").nth(1).expect("the parameters").split(". ").next().expect("their end");
+    let listed: Vec<String> = list.split(';').map(|entry| entry.split_whitespace().collect::<Vec<_>>().join(" ")).collect();
+    let told = |parameter: Parameter| {
+        let unit = parameter.unit().map_or(String::new(), |unit| format!(", {unit}"));
+        Some(format!("{} {} ({}{unit})", parameter.number(), parameter.name()?, parameter.abbreviation()?))
+    };
+    assert_eq!(listed, (0..=255).filter_map(|number| told(Parameter::new(number))).collect::<Vec<_>>());
+}

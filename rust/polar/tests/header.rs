@@ -1,4 +1,4 @@
-//! include/polar.h and this crate say the same: names, numbers and sentences.
+//! include/polar.h, docs/FORMAT.md, docs/REFUSALS.md and this crate say the same: names, numbers and sentences.
 use polar::{runs, File, Kind, Reason, Threshold};
 use reference::maker::{CutPlan, Plan};
 use reference::published::Product;
@@ -49,6 +49,26 @@ fn refusals() {
         assert_eq!(numbers.get(&name), Some(&i64::from(reason.number())), "{name}");
         assert_eq!(sentences.get(&name).map(String::as_str), Some(reason.meaning()), "{name}");
     }
+}
+
+/// The rows of a table of refusals: number and name.
+fn rows(page: &str) -> Vec<(u32, String)> {
+    let row = |line: &str| {
+        let mut cells = line.strip_prefix('|')?.split('|').map(|cell| cell.trim().trim_matches('`'));
+        Some((cells.next()?.parse().ok()?, cells.next()?.to_string()))
+    };
+    page.lines().filter_map(row).collect()
+}
+
+#[test]
+fn refusals_of_the_pages() {
+    let names: Vec<(u32, String)> = Reason::ALL.iter().map(|reason| (reason.number(), format!("{reason:?}"))).collect();
+    let rules = include_str!("../../../docs/FORMAT.md").split("## Refusals").nth(1).expect("the refusals");
+    assert_eq!(rows(rules.split("\n## ").next().expect("their end")), names);
+    let mut cases = rows(include_str!("../../../docs/REFUSALS.md"));
+    cases.sort();
+    cases.dedup();
+    assert_eq!(cases, names);
 }
 
 #[test]
