@@ -92,7 +92,8 @@ impl<'a> Listing<'a> {
         }
     }
 
-    fn file(&mut self, path: &OsStr, name: &str) -> Result<(), Problem> {
+    /// Lists the file that is the `file`th, counted from 1.
+    fn file(&mut self, file: usize, path: &OsStr, name: &str) -> Result<(), Problem> {
         let octets = read(path).map_err(Problem::Unread)?;
         let opened = Opened::open(&octets).map_err(|refusal| Problem::Refused(refusal, advice(path, &octets)))?;
         let heading = opened.heading();
@@ -105,7 +106,9 @@ impl<'a> Listing<'a> {
             if self.report.is_none() && !draw {
                 break;
             }
-            self.progress.tell(|| format!("blind: {}: cut {index} of {}", on_one_line(name), heading.cuts));
+            self.progress.tell(|| {
+                format!("blind: {}: cut {index} of {}, file {file} of {}", on_one_line(name), heading.cuts, self.asked.files.len())
+            });
             match opened.survey(*index, self.asked.threshold, with_values) {
                 Ok(survey) => self.cut(name, &heading, &survey, draw),
                 Err(refusal) => {
@@ -121,9 +124,9 @@ impl<'a> Listing<'a> {
     /// Lists every file; answers whether all went well.
     pub fn run(mut self) -> bool {
         self.tell(|report| report.begin());
-        for path in &self.asked.files {
+        for (at, path) in self.asked.files.iter().enumerate() {
             let name = printable(path);
-            if let Err(problem) = self.file(path, &name) {
+            if let Err(problem) = self.file(at + 1, path, &name) {
                 self.tell(|report| report.problem(&name, &problem));
                 self.complain(&format!("{name}: {problem}"));
                 if let Some(out) = &self.asked.svg {
