@@ -1,5 +1,5 @@
 //! Reading files, and what they are where they are none of a radar's.
-use crate::names::for_shell;
+use crate::names::{path_for_shell, word_for_shell};
 use std::ffi::OsStr;
 use std::fs::File;
 use std::io::{self, Read};
@@ -37,22 +37,30 @@ fn tar_block(octets: &[u8]) -> Option<&[u8]> {
 }
 
 /// The name of the archive's first file; none where the first block is of another kind, or the name is a longer one's part.
-fn first_name(block: &[u8]) -> Option<&OsStr> {
+fn first_name(block: &[u8]) -> Option<&[u8]> {
     let name = block[..100].split(|octet| *octet == 0).next()?;
     let whole = name.len() < 100 && block[345] == 0 && matches!(block[156], b'0' | 0);
-    whole.then(|| OsStr::from_bytes(name))
+    (whole && !name.starts_with(b"-")).then_some(name)
+}
+
+/// Whether gunzip takes a file of this name; another it takes from its standard input.
+fn is_gunzips(path: &OsStr) -> bool {
+    [&b".gz"[..], b".tgz"].iter().any(|end| path.as_bytes().ends_with(end))
 }
 
 /// What to do with octets that are packed as the agency delivers them.
 pub fn advice(path: &OsStr, octets: &[u8]) -> Option<String> {
     let from_pipe = path == "-";
-    let file = for_shell(path);
+    let file = path_for_shell(path);
     if octets.starts_with(&[0x1f, 0x8b]) {
-        let how = if from_pipe { "... | gunzip -c | blind -".into() } else { format!("gunzip -c {file} | blind -") };
+        let how = match from_pipe {
+            true => "... | gunzip -c | blind -".into(),
+            false => format!("gunzip -c {}{file} | blind -", if is_gunzips(path) { "" } else { "<" }),
+        };
         return Some(format!("this is a gzip file, and blind reads what is in it: {how}"));
     }
     let block = tar_block(octets)?;
-    let name = first_name(block).map_or("NAME".into(), for_shell);
+    let name = first_name(block).map_or("NAME".into(), word_for_shell);
     let how = if from_pipe {
         format!("... | tar -xOf - {name} | blind -")
     } else {

@@ -23,12 +23,14 @@ pub struct Listing<'a> {
     fault: Option<io::Error>,
     all_well: bool,
     progress: Progress,
+    /// the notes that were said of this file
+    notes: Vec<String>,
 }
 
 impl<'a> Listing<'a> {
     pub fn new(asked: &'a Arguments) -> Listing<'a> {
         let report = report(BufWriter::new(io::stdout().lock()), asked);
-        Listing { asked, report: Some(report), fault: None, all_well: true, progress: Progress::new() }
+        Listing { asked, report: Some(report), fault: None, all_well: true, progress: Progress::new(), notes: vec![] }
     }
 
     /// Goes on with the report. What is left after a fault of it is whether all files are sound, and the picture.
@@ -83,9 +85,10 @@ impl<'a> Listing<'a> {
         self.tell(|report| report.cut(name, heading, survey));
         let has_notes = self.report.as_ref().is_none_or(|report| report.has_notes());
         if !has_notes {
-            for note in &survey.notes {
+            for note in survey.notes.iter().filter(|note| !self.notes.contains(note)) {
                 say(&format!("{name}: cut {}: note: {note}", survey.index));
             }
+            self.notes.extend_from_slice(&survey.notes);
         }
         if draw {
             self.draw(heading, survey);
@@ -98,6 +101,7 @@ impl<'a> Listing<'a> {
         let opened = Opened::open(&octets).map_err(|refusal| Problem::Refused(refusal, advice(path, &octets)))?;
         let heading = opened.heading();
         let cuts = self.wanted_cuts(&opened, &heading)?;
+        self.notes.clear();
         self.tell(|report| report.file(name, &heading));
         let with_values = self.asked.list == List::Values;
         let mut outcome = Ok(());

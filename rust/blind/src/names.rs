@@ -31,15 +31,24 @@ pub fn on_one_line(text: &str) -> String {
     shown
 }
 
-/// A name as a shell takes it for one word, which is no option.
-pub fn for_shell(name: &OsStr) -> String {
-    let front = if name.as_bytes().first() == Some(&b'-') { "./" } else { "" };
-    let octets = [front.as_bytes(), name.as_bytes()].concat();
+/// A path for a shell: one word, which is no option, and nothing on another machine, as `tar` takes what has a colon.
+pub fn path_for_shell(path: &OsStr) -> String {
+    let octets = path.as_bytes();
+    let before_slash = octets.split(|octet| *octet == b'/').next().unwrap_or_default();
+    if octets.starts_with(b"-") || before_slash.contains(&b':') {
+        word_for_shell(&[b"./", octets].concat())
+    } else {
+        word_for_shell(octets)
+    }
+}
+
+/// Octets as one word of a shell.
+pub fn word_for_shell(octets: &[u8]) -> String {
     let plain = |octet: &u8| octet.is_ascii_alphanumeric() || b"_./,:=@%+-".contains(octet);
-    let text = String::from_utf8_lossy(&octets);
+    let text = String::from_utf8_lossy(octets);
     if octets.iter().all(plain) {
         text.into()
-    } else if std::str::from_utf8(&octets).is_ok_and(|text| !text.contains(char::is_control)) {
+    } else if std::str::from_utf8(octets).is_ok_and(|text| !text.contains(char::is_control)) {
         format!("'{}'", text.replace('\'', "'\\''"))
     } else {
         let quoted = |octet: &u8| match octet {
@@ -66,11 +75,13 @@ mod tests {
         for (name, word) in [
             (&b"a/b-1.bin"[..], "a/b-1.bin"),
             (b"-x.gz", "./-x.gz"),
+            (b"a:b", "./a:b"),
+            (b"a/b:c", "a/b:c"),
             (b"a b's", "'a b'\\''s'"),
             (b"a\xff'\n", "$'a\\xff\\'\\x0a'"),
             (b"", ""),
         ] {
-            assert_eq!(for_shell(OsStr::from_bytes(name)), word);
+            assert_eq!(path_for_shell(OsStr::from_bytes(name)), word);
         }
     }
 }

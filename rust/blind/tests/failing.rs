@@ -83,18 +83,26 @@ fn gzip_and_tar() {
     let folder = Folder::new();
     let name = "Z__C_RJTD_20260614034000_RDR_JMAGPV_RS47695_Gar0p5km0p7deg_Pze_ANAL_grib2.bin";
     folder.put(name, &document_sample().file());
+    folder.put("filler", &[0; 9_000_000]);
     let gzip = packed("gzip", &["-c", name], folder.path());
     for (file, octets) in [
         ("a.gz", gzip),
         ("it's a.gz", packed("gzip", &["-c", name], folder.path())),
+        ("no-suffix", packed("gzip", &["-c", name], folder.path())),
+        ("03:40.tar", packed("tar", &["-cf", "-", name], folder.path())),
+        ("large.tar", packed("tar", &["-cf", "-", name, "filler"], folder.path())),
         ("ustar.tar", packed("tar", &["--format=ustar", "-cf", "-", name], folder.path())),
         ("gnu.tar", packed("tar", &["--format=gnu", "-cf", "-", name], folder.path())),
         ("v7.tar", packed("tar", &["--format=v7", "-cf", "-", name], folder.path())),
     ] {
         folder.put(file, &octets);
         let (listing, errors, status) = all(&command().arg(file).current_dir(folder.path()).output().expect("the command"));
-        let kind = if file.ends_with("gz") { "gzip file" } else { "tar archive" };
-        assert!(errors.contains(&format!(": this is a {kind}, and blind reads ")) && errors.contains("refused "), "{errors}");
+        let kind = if octets.starts_with(&[0x1f, 0x8b]) { "gzip file" } else { "tar archive" };
+        let number = if file == "large.tar" { 1 } else { 2 };
+        assert!(
+            errors.contains(&format!(": this is a {kind}, and blind reads ")) && errors.contains(&format!(": refused {number} at 0: ")),
+            "{errors}"
+        );
         assert_eq!((format!("blind: {listing}"), status), (errors.clone(), Some(1)));
         let (followed, status) = follow(&errors, folder.path());
         assert!(followed.starts_with("-: base format, reflectivity, "), "{errors} gave {followed}");

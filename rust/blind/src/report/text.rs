@@ -22,6 +22,8 @@ pub struct Text<'a, W> {
     before: bool,
     /// what stands below the totals of all cuts
     below: String,
+    /// the notes that this file has had
+    notes: Vec<String>,
 }
 
 /// What a kind is called where it is said where it lies.
@@ -70,7 +72,7 @@ fn sector_lines(heading: &Heading, survey: &Survey, kind: Kind) -> String {
 
 impl<'a, W: Write> Text<'a, W> {
     pub fn new(out: W, asked: &'a Arguments) -> Self {
-        Text { out, asked, before: false, below: String::new() }
+        Text { out, asked, before: false, below: String::new(), notes: vec![] }
     }
 
     /// A line between files.
@@ -99,9 +101,10 @@ impl<'a, W: Write> Text<'a, W> {
             Millionths(grid.latitude_microdegrees),
             Millionths(grid.longitude_microdegrees)
         )?;
-        for note in &survey.notes {
+        for note in survey.notes.iter().filter(|note| !self.notes.contains(note)) {
             writeln!(self.out, "  note: {note}")?;
         }
+        self.notes.extend_from_slice(&survey.notes);
         Ok(())
     }
 
@@ -164,6 +167,7 @@ impl<W: Write> Report for Text<'_, W> {
 
     fn file(&mut self, name: &str, heading: &Heading) -> io::Result<()> {
         self.next_file()?;
+        self.notes.clear();
         let Heading { format, product_in_full, time, site, cuts, .. } = heading;
         let cuts = if *cuts == 1 { "1 cut".into() } else { format!("{cuts} cuts") };
         writeln!(self.out, "{}: {format} format, {product_in_full}, {time}, site {site}, {cuts}", on_one_line(name))
