@@ -182,7 +182,7 @@ pub fn drawing(heading: &Heading, survey: &Survey, turn: &Turn) -> String {
         let _ = writeln!(svg, "<rect x=\"30\" y=\"{y}\" width=\"16\" height=\"16\" fill=\"{}\"/>", colour(*kind));
         add_text(&mut svg, (54.0, y + 13.0), 15, "start", line);
     }
-    add_text(&mut svg, (WIDTH - 30.0, 1235.0), 12, "end", &precedence(heading, survey));
+    add_text(&mut svg, (WIDTH - 30.0, 1283.0), 12, "end", &precedence(heading, survey));
     svg + "</svg>\n"
 }
 

@@ -96,6 +96,33 @@ fn odd_files() {
     assert_eq!((rows, output.status.code()), (vec![".,unread", "/dev/zero,refused 1 at 0", "/dev/null,refused 1 at 0"], Some(1)));
 }
 
+/// Sound files of any shape are listed and drawn, with distances from one millimetre to thousands of kilometres.
+#[test]
+fn sound_files_of_any_shape() {
+    let folder = Folder::new();
+    let out = folder.join("a.svg");
+    let mut n = reference::numbers::Numbers::new(171);
+    for at in 0..40 {
+        let file = if at % 2 == 0 {
+            let mut plan = reference::shapes::random_plan(3, 40, 12, &mut n);
+            for cut in plan.cuts.iter_mut().filter(|cut| cut.own_grid) {
+                (cut.grid.dx, cut.grid.dstart) = (n.one_of(&[1, 500_000, 0xFFFF_FFFF]), n.one_of(&[0, 1, 0xFFFF_FFFF]));
+            }
+            plan.file()
+        } else {
+            reference::dual::shapes::random_plan(4, 6, 5, &mut n).file()
+        };
+        for form in ["--sectors", "--csv", "--json", "--values", "--stretches"] {
+            let output = common::blind_on(&[form, "--svg", out.to_str().expect("a path"), "-"], &file);
+            no_panic(&output);
+            // rays of the second format may have no azimuth, and then there is no picture
+            let undrawn = told(&output.stderr).contains("was not drawn: cut 0 has rays without an azimuth");
+            assert_eq!(output.status.code(), Some(i32::from(undrawn)), "{}", told(&output.stderr));
+            assert!(undrawn || fs::read_to_string(&out).is_ok_and(|svg| !svg.contains("NaN") && !svg.contains("inf,")));
+        }
+    }
+}
+
 /// Spoiled files of both formats get an answer in every form.
 #[test]
 fn spoiled_files() {

@@ -281,6 +281,9 @@ fn words() {
         assert!(drawing.contains(part), "{part}");
     }
     assert_eq!(drawing.matches("<path stroke=").count(), 36);
+    // what has no number is painted last, so that no outline covers it
+    let colours: Vec<&str> = drawing.split("<g transform=\"scale(0.1)\" fill=\"").skip(1).map(|group| &group[..7]).collect();
+    assert_eq!(colours, [UNDER, OVER, MISSING]);
     let drawing = drawn(&fs::read(sample("wind.bin")).expect("the sample"), &[]);
     assert!(
         drawing.contains("missing: out of range, no data, or nothing detected, ")
