@@ -2,6 +2,7 @@
 mod common;
 
 use common::{all, blind, blind_on, listed, sample, told};
+use reference::layout::verdict;
 use reference::maker::{document_sample, CutPlan, Plan};
 use reference::published::Product;
 use std::fs::File;
@@ -25,6 +26,28 @@ cut 0, where blind, largest first:
     assert_eq!(listed(&["--sectors", "document01.bin"], &[]), text);
     let over = listed(&["--kind", "over", "document01.bin"], &[]);
     assert!(over.ends_with("cut 0, where over, largest first:\n  45 to 225 degrees, 1 to 2.5 km: over, 3 of 3 bins\n  225 to 45 degrees, 0 to 0.5 km: over, 1 of 1 bins\n"), "{over}");
+}
+
+/// The counts of a file as the format's paper has it are those of the independent reader.
+#[test]
+fn totals_by_another_reader() {
+    let file = std::fs::read(sample("ridge-full.bin")).expect("the sample");
+    let cuts = verdict(&file).expect("a sound file").cuts;
+    assert!(cuts.len() >= 10 && cuts.iter().all(|cut| (cut.grid.rays, cut.grid.dx) == (512, 500_000)));
+    assert!(cuts[..6].iter().all(|cut| cut.grid.bins == 500));
+    let count = |levels: &[u8], kind: &str| {
+        let value = |level: &u8| Product::Reflectivity.value(*level);
+        let is = |level: &&u8| match value(level) {
+            None => kind == "missing",
+            Some(value) => kind == if value < 4000 { "under" } else { "over" },
+        };
+        levels.iter().filter(is).count()
+    };
+    let expected: Vec<String> =
+        cuts.iter().flat_map(|cut| ["missing", "under", "over"].map(|kind| format!("{kind},{}", count(cut.levels(), kind)))).collect();
+    let rows = listed(&["--csv", "--totals", "ridge-full.bin"], &[]);
+    let found: Vec<String> = rows.lines().skip(1).map(|row| row.split(',').skip(9).take(2).collect::<Vec<_>>().join(",")).collect();
+    assert_eq!(found, expected);
 }
 
 /// The totals of all cuts come first, then where it was blind. A real-sized file is a page.

@@ -65,10 +65,15 @@ fn never_called_blind() {
     assert!(drawing.contains("no value: invalid or nothing detected, 6191 bins, 80.61 %") && !drawing.contains("blind"));
 }
 
-/// As source document 004 has a file: 0.25 km and 0.7 degrees.
+/// As the format's paper has a file: 0.25 km and 0.7 degrees. The counts are those of the independent reader.
 #[test]
 fn the_full_sample() {
+    let file = fs::read(common::sample("dual-full.bin")).expect("the sample");
+    let cut = &reference::dual::layout::verdict(&file).expect("a sound file").cuts[0];
+    let without = (0..cut.grid.points()).filter(|at| cut.cell(at / cut.grid.bins, at % cut.grid.bins).is_none()).count();
+    assert_eq!((cut.grid.rays, cut.grid.bins, cut.grid.dx), (512, 600, 250_000));
     let text = listed(&["dual-full.bin"], &[]);
+    assert!(text.contains(&format!("total no value  {without} bins ")), "{text}");
     assert!(text.contains("cut 0: elevation 0.30 degrees\n  512 rays of 600 bins of 250 m from 0 m, reach 150 km, "), "{text}");
     let rows = listed(&["--csv", "dual-full.bin"], &[]);
     assert!(rows.lines().nth(1).unwrap().ends_with(",0,0.35,0,147,0.000,36750.000,no_value"), "{}", rows.lines().nth(1).unwrap());

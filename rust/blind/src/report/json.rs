@@ -82,7 +82,8 @@ impl<'a, W: Write> Json<'a, W> {
             let Stretch { ray, first, length, kind } = *stretch;
             let [from, to] = [first, first + length].map(|bin| survey.distance(bin).metres());
             let (azimuth, kind) = (or_null(survey.azimuth(ray)), kind.name());
-            format!("{{\"ray\":{ray},\"azimuth\":{azimuth},\"first\":{first},\"length\":{length},\"from_m\":{from},\"to_m\":{to},\"kind\":\"{kind}\"}}")
+            let bins = format!("\"first\":{first},\"length\":{length},\"from_m\":{from},\"to_m\":{to}");
+            format!("{{\"ray\":{ray},\"azimuth\":{azimuth},{bins},\"kind\":\"{kind}\"}}")
         };
         self.array("stretches", survey.stretches.iter().filter(|stretch| kinds.contains(&stretch.kind)).map(object))
     }
