@@ -51,8 +51,21 @@ impl From<polar::Kind> for Kind {
             polar::Kind::Missing => Kind::Missing,
             polar::Kind::Under => Kind::Under,
             polar::Kind::Over => Kind::Over,
-            // one that is not known here has no number that is known here
+            // none comes here: a test holds that every kind of the library has its name here
             _ => Kind::Missing,
         }
+    }
+}
+
+#[cfg(test)]
+mod tests {
+    use super::*;
+
+    #[test]
+    fn every_kind_of_the_library_is_known() {
+        for kind in polar::Kind::ALL {
+            assert_eq!(Kind::from(*kind).name(), kind.to_string());
+        }
+        assert_eq!(Kind::ALL.map(|kind| Kind::named(kind.name())), Kind::ALL.map(Some));
     }
 }

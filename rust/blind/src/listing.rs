@@ -137,6 +137,8 @@ impl<'a> Listing<'a> {
                     self.complain(&format!("{} was not drawn", printable(out)));
                 }
             }
+            // who reads along sees each file when it is done
+            self.tell(|report| report.flush());
         }
         self.tell(|report| report.end());
         match &self.fault {

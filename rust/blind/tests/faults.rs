@@ -86,6 +86,16 @@ fn errors_that_cannot_be_written() {
     assert_eq!(output.status.code(), Some(1));
 }
 
+/// A link to a file is as good as the file.
+#[test]
+fn a_link() {
+    let folder = Folder::new();
+    std::os::unix::fs::symlink(sample("document01.bin"), folder.join("link")).expect("a link");
+    let output = command().arg("link").current_dir(folder.path()).output().expect("the command");
+    assert!(told(&output.stdout).starts_with("link: base format, reflectivity, "));
+    assert_eq!(output.status.code(), Some(0));
+}
+
 /// Files that are none: a folder, a device without an end, an empty one.
 #[test]
 fn odd_files() {
