@@ -1,9 +1,7 @@
 /* The dual-polarisation calls from C on samples/dual.bin, whose path is the first argument. */
 #include "check.h"
 #include "polar.h"
-
-static uint8_t file[65536];
-static size_t len;
+#include "sample.h"
 
 /* Where the sample's sections begin: 1, then 3, 4, 5, 6, 7 of its first cut. */
 enum { SECTION_1 = 16, SECTION_3 = 37, SECTION_4 = 607, SECTION_5 = 1182, SECTION_7 = 1209 };
@@ -61,7 +59,7 @@ static void refusals(void)
 
     CHECK(polar_dual_open(file, 19, answer) == POLAR_FILE_SIZE && answer[0] == 0);
     CHECK(polar_dual_open(file, len - 1, answer) == POLAR_SECTION_0 && answer[0] == 0);
-    CHECK(spoiled(SECTION_4, 5, 5, &place) == POLAR_SECTIONS && place == SECTION_4);
+    CHECK(spoiled(SECTION_4, 5, 5, &place) == POLAR_FRAME && place == SECTION_4);
     CHECK(spoiled(SECTION_3, 53, 0, &place) == POLAR_SECTION_LENGTH && place == SECTION_3);
     CHECK(spoiled(SECTION_1, 15, 13, &place) == POLAR_FIELD && place == SECTION_1);
     CHECK(spoiled(SECTION_5, 19, 5, &place) == POLAR_FIELD && place == SECTION_5);
@@ -104,14 +102,8 @@ static void values(void)
 
 int main(int argc, char **argv)
 {
-    FILE *sample = argc > 1 ? fopen(argv[1], "rb") : NULL;
-
-    if (sample == NULL) {
-        puts("no sample file");
+    if (!read_sample(argc, argv))
         return 2;
-    }
-    len = fread(file, 1, sizeof file, sample);
-    fclose(sample);
     opening();
     refusals();
     values();

@@ -1,11 +1,9 @@
-/* The file calls from C on the sample of document 01, whose path is the first argument. */
+/* The file calls from C on samples/document01.bin, whose path is the first argument. */
 #include "check.h"
 #include "polar.h"
+#include "sample.h"
 
 #include <string.h>
-
-static uint8_t file[1024];
-static size_t len;
 
 static void opening(void)
 {
@@ -15,10 +13,14 @@ static void opening(void)
 
     CHECK(len == 689);
     CHECK(polar_open(file, len, answer) == 0);
-    CHECK(answer[0] == 0 && answer[1] == POLAR_REFLECTIVITY && answer[9] == 1);
-    CHECK(answer[2] == 2026 && answer[3] == 6 && answer[4] == 14 && answer[8] == 47695);
+    CHECK(answer[POLAR_PLACE] == 0 && answer[POLAR_OPEN_PRODUCT] == POLAR_REFLECTIVITY && answer[POLAR_OPEN_CUTS] == 1);
+    CHECK(answer[POLAR_OPEN_YEAR] == 2026 && answer[POLAR_OPEN_MONTH] == 6 && answer[POLAR_OPEN_DAY] == 14);
+    CHECK(answer[POLAR_OPEN_HOUR] == 3 && answer[POLAR_OPEN_MINUTE] == 40 && answer[POLAR_OPEN_SECOND] == 0);
+    CHECK(answer[POLAR_OPEN_SITE] == 47695);
     CHECK(polar_cut(file, len, 0, cut) == 0);
-    CHECK(cut[0] == 0 && cut[1] == 5 && cut[2] == 2 && cut[5] == 500000 && cut[9] == 1 && cut[10] == 130);
+    CHECK(cut[POLAR_PLACE] == 0 && cut[POLAR_CUT_BINS] == 5 && cut[POLAR_CUT_RAYS] == 2 && cut[POLAR_CUT_DX] == 500000);
+    CHECK(cut[POLAR_CUT_DSTART] == 0 && cut[POLAR_CUT_START_AZIMUTH] == 4500 && cut[POLAR_CUT_ELEVATION_KNOWN] == 1);
+    CHECK(cut[POLAR_CUT_ELEVATION] == 130 && cut[POLAR_CUT_LATITUDE] != 0 && cut[POLAR_CUT_LONGITUDE] != 0);
 
     for (i = 0; i < 11; i++)
         cut[i] = -77;
@@ -61,6 +63,11 @@ static void rays(void)
     CHECK(polar_bin_value(file, len, 0, 1, 0, &value, answer) == 0);
     CHECK(answer[1] == 1 && value == 41.12);
     CHECK(polar_bin_value(file, len, 0, 1, 5, &value, answer) == POLAR_ARGUMENT);
+
+    /* no room is too little room, whatever its pointer */
+    CHECK(polar_ray_levels(file, len, 0, 1, NULL, 0, place) == POLAR_ROOM);
+    CHECK(polar_ray_values(file, len, 0, 1, NULL, 0, values, 6, place) == POLAR_ROOM);
+    CHECK(polar_ray_values(file, len, 0, 1, marks, 6, NULL, 0, place) == POLAR_ROOM);
 }
 
 static void stretches(void)
@@ -89,19 +96,14 @@ static void stretches(void)
     CHECK(memcmp(all, expected, sizeof expected) == 0);
     CHECK(polar_stretches(file, len, 0, 32768, 0, 0, all, 21, answer) == POLAR_ARGUMENT);
     CHECK(polar_stretches(file, len, 0, 0, 0, 0, all, 3, answer) == POLAR_ROOM);
+    CHECK(polar_stretches(file, len, 0, 0, 0, 0, NULL, 0, answer) == POLAR_ROOM);
     CHECK(answer[0] == 0 && answer[1] == 5);
 }
 
 int main(int argc, char **argv)
 {
-    FILE *sample = argc > 1 ? fopen(argv[1], "rb") : NULL;
-
-    if (sample == NULL) {
-        puts("no sample file");
+    if (!read_sample(argc, argv))
         return 2;
-    }
-    len = fread(file, 1, sizeof file, sample);
-    fclose(sample);
     opening();
     rays();
     stretches();

@@ -1,11 +1,9 @@
-/* The index and the calls by a record from C on the sample of document 01, whose path is the first argument. */
+/* The index and the calls by a record from C on samples/document01.bin, whose path is the first argument. */
 #include "check.h"
 #include "polar.h"
+#include "sample.h"
 
 #include <string.h>
-
-static uint8_t file[1024];
-static size_t len;
 
 /* Where section 7 begins, and its data: 0 132 130 134 1 133 0 under V 130. */
 enum { SECTION_7 = 673, DATA = SECTION_7 + 5 };
@@ -29,6 +27,7 @@ static void building(void)
 
     CHECK(polar_build_index(file, len, 0, records, 1, place) == POLAR_ROOM && place[0] == 0);
     CHECK(polar_build_index(file, len, 1, records, 0, place) == POLAR_ARGUMENT && place[0] == 0);
+    CHECK(polar_build_index(file, len, 0, NULL, 0, place) == POLAR_ROOM && place[0] == 0);
     CHECK(polar_build_index(file, len - 1, 0, records, 3, place) == POLAR_SECTION_0 && place[0] == 0);
     /* a bin too few */
     file[DATA + 1] = 131;
@@ -126,14 +125,8 @@ static void refusals(void)
 
 int main(int argc, char **argv)
 {
-    FILE *sample = argc > 1 ? fopen(argv[1], "rb") : NULL;
-
-    if (sample == NULL) {
-        puts("no sample file");
+    if (!read_sample(argc, argv))
         return 2;
-    }
-    len = fread(file, 1, sizeof file, sample);
-    fclose(sample);
     CHECK(len == 689);
     shape();
     building();

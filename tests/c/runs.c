@@ -1,4 +1,4 @@
-/* The bare run calls from C: document 01's examples, and what stays unchanged. */
+/* The bare run calls from C: FORMAT.md, "Checked examples", and what stays unchanged; what the header offers besides calls. */
 #include "check.h"
 #include "polar.h"
 
@@ -53,9 +53,63 @@ static void writing(void)
     CHECK(answer[1] == 0 && answer[2] == 0);
 }
 
+/* Where a length is 0 the pointer may be null. */
+static void nulls(void)
+{
+    const uint8_t octets[] = {3};
+    uint64_t answer[10] = {77, 77, 77};
+    int64_t cut[11];
+
+    CHECK(polar_run_check(NULL, 0, 10, 0) == 0);
+    CHECK(polar_run_check(NULL, 0, 10, 1) == POLAR_DATA);
+    CHECK(polar_run_read(NULL, 0, 10, 0, NULL, 0, answer) == 0 && answer[0] == 0);
+    CHECK(polar_run_read(octets, 1, 10, 1, NULL, 0, answer) == POLAR_ROOM);
+    CHECK(polar_run_write(NULL, 0, NULL, 0, answer) == 0 && answer[1] == 0 && answer[2] == 0);
+    CHECK(polar_run_write(octets, 1, NULL, 0, answer) == POLAR_ROOM);
+    CHECK(polar_open(NULL, 0, answer) == POLAR_FILE_SIZE);
+    CHECK(polar_cut(NULL, 0, 0, cut) == POLAR_FILE_SIZE);
+    CHECK(polar_ray_levels(NULL, 0, 0, 0, NULL, 0, answer) == POLAR_FILE_SIZE);
+    CHECK(polar_ray_values(NULL, 0, 0, 0, NULL, 0, NULL, 0, answer) == POLAR_FILE_SIZE);
+    CHECK(polar_build_index(NULL, 0, 0, NULL, 0, answer) == POLAR_FILE_SIZE);
+    CHECK(polar_ray_levels_from(NULL, 0, 0, 0, 0, 0, NULL, 0, answer) == POLAR_FILE_SIZE);
+    CHECK(polar_ray_values_from(NULL, 0, 0, 0, 0, 0, NULL, 0, NULL, 0, answer) == POLAR_FILE_SIZE);
+    CHECK(polar_stretches(NULL, 0, 0, 0, 0, 0, NULL, 0, answer) == POLAR_FILE_SIZE);
+    CHECK(polar_house_stretches(NULL, 0, 0, 0, 0, NULL, 0, answer) == POLAR_FILE_SIZE);
+    CHECK(polar_dual_open(NULL, 0, answer) == POLAR_FILE_SIZE);
+    CHECK(polar_dual_cut(NULL, 0, 0, cut) == POLAR_FILE_SIZE);
+}
+
+/* Every refusal has a text of its own, and no other number has one. */
+static void texts(void)
+{
+    const char *none = polar_refusal_text(POLAR_UNREAD + 1);
+    uint32_t number, other;
+
+    CHECK(none == polar_refusal_text(UINT32_MAX));
+    for (number = 0; number <= POLAR_UNREAD; number++) {
+        CHECK(strcmp(polar_refusal_text(number), none) != 0);
+        for (other = 0; other < number; other++)
+            CHECK(strcmp(polar_refusal_text(number), polar_refusal_text(other)) != 0);
+    }
+}
+
+/* What places are filled with is no value. */
+static void no_values(void)
+{
+    const double none = POLAR_NO_VALUE_DOUBLE;
+
+    CHECK(POLAR_NO_VALUE < POLAR_LEAST_THRESHOLD);
+    CHECK(!(none == none));
+    CHECK(POLAR_RUN_WORDS == 3 && POLAR_OPEN_WORDS == 10 && POLAR_CUT_WORDS == 11 && POLAR_DUAL_CUT_WORDS == 7);
+    CHECK(POLAR_BIN_WORDS == 2 && POLAR_LIST_WORDS == 4);
+}
+
 int main(void)
 {
     reading();
     writing();
+    nulls();
+    texts();
+    no_values();
     return checks_failed != 0;
 }

@@ -1,5 +1,5 @@
 //! The values of a cut, bin by bin, and how they are written.
-use polar::{dual, Cut};
+use polar::{dual, Bin, Cut, Hundredths};
 use std::fmt;
 
 /// The value of each bin, ray by ray; none where it is missing.
@@ -20,23 +20,20 @@ pub struct Found {
 const MOST_DECIMALS: usize = 6;
 
 impl Values {
+    /// The values of rays of `bins` bins, one after the other.
+    pub fn of_cells(bins: usize, cells: Vec<Option<f64>>) -> Values {
+        Values { bins, cells }
+    }
+
     pub fn of_base(cut: &Cut) -> Values {
-        let cells = cut.rays().flat_map(|ray| ray.values().map(|value| value.map(|v| f64::from(v) / 100.0)).collect::<Vec<_>>());
-        Values { bins: cut.bin_count(), cells: cells.collect() }
+        let value = |bin: &Bin<Hundredths>| bin.measured().map(Hundredths::to_f64);
+        let cells = cut.rays().flat_map(|ray| ray.bins().iter().map(value).collect::<Vec<_>>());
+        Values::of_cells(cut.grid().bins, cells.collect())
     }
 
     pub fn of_dual(cut: &dual::Cut) -> Values {
-        let cells = cut.rays().flat_map(|ray| ray.values().collect::<Vec<_>>());
-        Values { bins: cut.bin_count(), cells: cells.collect() }
-    }
-
-    /// All bins.
-    pub fn count(&self) -> usize {
-        self.cells.len()
-    }
-
-    pub fn measured(&self) -> usize {
-        self.cells.iter().flatten().count()
+        let cells = cut.rays().flat_map(|ray| ray.bins().iter().map(|bin| bin.measured()).collect::<Vec<_>>());
+        Values::of_cells(cut.grid().bins, cells.collect())
     }
 
     /// Ray by ray.
@@ -101,7 +98,7 @@ mod tests {
     use super::*;
 
     fn values(cells: &[Option<f64>]) -> Values {
-        Values { bins: 2, cells: cells.to_vec() }
+        Values::of_cells(2, cells.to_vec())
     }
 
     #[test]
@@ -127,10 +124,10 @@ mod tests {
     #[test]
     fn ends() {
         let all = values(&[None, Some(2.0), Some(-1.0), Some(2.0), Some(-1.0), None]);
-        assert_eq!((all.count(), all.measured(), all.rays().count()), (6, 4, 3));
+        assert_eq!(all.rays().count(), 3);
         assert_eq!(all.least(), Some(Found { value: -1.0, ray: 1, bin: 0 }));
         assert_eq!(all.greatest(), Some(Found { value: 2.0, ray: 0, bin: 1 }));
         let none = values(&[None, None]);
-        assert_eq!((none.least(), none.greatest(), none.measured()), (None, None, 0));
+        assert_eq!((none.least(), none.greatest()), (None, None));
     }
 }

@@ -3,4 +3,5 @@
 pub mod compare;
 pub mod dual;
 pub mod lent;
+pub mod made;
 pub mod ours;

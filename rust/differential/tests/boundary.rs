@@ -66,9 +66,17 @@ fn without_comments(text: &str) -> String {
     kept + rest
 }
 
+/// Macros, and functions that the header itself defines, are no calls of the library.
+fn without_definitions(text: &str) -> String {
+    let text: String = text.split_inclusive('\n').filter(|line| !line.starts_with('#')).collect();
+    let mut parts = text.split("static inline ");
+    let declarations = parts.next().expect("the header's front").to_string();
+    parts.fold(declarations, |kept, part| kept + part.split_once("\n}\n").expect("a definition's end").1)
+}
+
 /// Every prototype of the header.
 fn in_header() -> Calls {
-    let text = without_comments(&source("include/polar.h"));
+    let text = without_definitions(&without_comments(&source("include/polar.h")));
     let prototypes = text
         .split(';')
         .filter_map(|part| part.rsplit_once('(').map(|(head, arguments)| (head, arguments.trim_end().trim_end_matches(')'))));

@@ -1,13 +1,13 @@
 //! Dual-polarisation files: open, cut and bin value against the independent reader, and each format under the other's calls.
 use differential::dual::Compared;
-use differential::{compare, ours};
+use differential::{compare, made, ours};
 use reference::dual::maker::{CutPlan, Flags, Plan};
 use reference::dual::packing::Packing;
 use reference::dual::shapes::{cancelling, random_cut, random_packing, random_plan, single};
 use reference::dual::{cases, layout};
-use reference::maker::{document_sample, set_total};
+use reference::maker::document_sample;
 use reference::numbers::Numbers;
-use reference::spoil::{spoil, spoil_sections};
+use reference::spoil::spoil;
 
 /// Every E and D.
 fn scales() -> impl Iterator<Item = (u16, u16)> {
@@ -161,20 +161,9 @@ fn small_file() -> Vec<u8> {
     Plan::new(vec![first, later]).file()
 }
 
-/// Cut off anywhere: with section 0's total as it was, set to what is left, and with an end that looks right.
 #[test]
 fn every_truncation() {
-    let file = small_file();
-    for len in 0..=file.len() {
-        let mut part = file[..len].to_vec();
-        Compared::new(&part).every_call();
-        if len >= 20 {
-            set_total(&mut part);
-            Compared::new(&part).every_call();
-            part[len - 4..].copy_from_slice(b"7777");
-            Compared::new(&part).every_call();
-        }
-    }
+    made::truncations(&small_file(), |part| Compared::new(part).every_call());
 }
 
 /// Every octet at every value; each that is refused is so by the same number at the same place.
@@ -201,19 +190,7 @@ fn random_spoilings() {
     let mut n = Numbers::new(106);
     for _ in 0..1500 {
         let plan = random_plan(3, 6, 4, &mut n);
-        let (sections, sound) = (plan.sections(), plan.file());
-        for _ in 0..60 {
-            let mut file = sound.clone();
-            for _ in 0..n.within(1, 3) {
-                if !file.is_empty() {
-                    spoil(&mut file, &mut n);
-                }
-            }
-            Compared::new(&file).every_call();
-        }
-        for _ in 0..30 {
-            Compared::new(&spoil_sections(&sections, &mut n)).every_call();
-        }
+        made::spoilings(&plan.file(), &plan.sections(), 60, &mut n, |file, _| Compared::new(file).every_call());
     }
 }
 

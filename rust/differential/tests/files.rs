@@ -1,10 +1,9 @@
 //! Open and cut against the independent reader: sound files of every shape, and spoiled ones.
 use differential::compare::Compared;
-use differential::ours;
+use differential::{made, ours};
 use reference::maker::{document_sample, set_total, CutPlan, Plan};
 use reference::numbers::Numbers;
 use reference::published::Product;
-use reference::spoil::{spoil, spoil_sections};
 use reference::{cases, shapes};
 
 /// Open and every cut, and cuts that are not there.
@@ -57,38 +56,19 @@ fn small_file() -> Vec<u8> {
     Plan::new(Product::Velocity, vec![CutPlan::of_levels(2, 2, &[3, 3, 3, 0]), later]).file()
 }
 
-/// Cut off anywhere: with section 0's total as it was, and set to what is left.
 #[test]
 fn every_truncation() {
     for file in [document_sample().file(), small_file()] {
-        for len in 0..=file.len() {
-            let mut part = file[..len].to_vec();
-            opens(&part);
-            if len >= 16 {
-                set_total(&mut part);
-                opens(&part);
-                // and with an end that looks right
-                if len >= 20 {
-                    part[len - 4..].copy_from_slice(b"7777");
-                    opens(&part);
-                }
-            }
-        }
+        made::truncations(&file, opens);
     }
 }
 
 #[test]
 fn every_octet_changed() {
     for file in [document_sample().file(), small_file()] {
-        let mut changed = file.clone();
-        for at in 0..file.len() {
-            let kept = file[at];
-            for value in [0, 1, 2, 3, 4, 5, 7, 8, 127, 128, 254, 255, kept ^ 1, kept ^ 128, kept.wrapping_add(1), kept.wrapping_sub(1)] {
-                changed[at] = value;
-                let _ = Compared::new(&changed).open();
-            }
-            changed[at] = kept;
-        }
+        made::changed_octets(&file, |changed| {
+            let _ = Compared::new(changed).open();
+        });
     }
 }
 
@@ -97,19 +77,7 @@ fn random_spoilings() {
     let mut n = Numbers::new(33);
     for _ in 0..1200 {
         let plan = shapes::random_plan(3, 9, 4, &mut n);
-        let (sections, sound) = (plan.sections(), plan.file());
-        for _ in 0..60 {
-            let mut file = sound.clone();
-            for _ in 0..n.within(1, 3) {
-                if !file.is_empty() {
-                    spoil(&mut file, &mut n);
-                }
-            }
-            opens(&file);
-        }
-        for _ in 0..30 {
-            opens(&spoil_sections(&sections, &mut n));
-        }
+        made::spoilings(&plan.file(), &plan.sections(), 60, &mut n, |file, _| opens(file));
     }
 }
 

@@ -1,16 +1,17 @@
 //! Building an index, and ray levels and ray values by a record, against the independent reader and against the plain calls.
 use differential::compare::Compared;
+use differential::made::{self, FAR};
 use differential::ours;
 use polar_sys::RayRecord;
 use reference::frame::GREATEST_FILE;
 use reference::index::cases::{self, Case};
 use reference::index::shapes::{long_run, random_record, random_unchecked_plan};
 use reference::index::Record;
-use reference::maker::{document_sample, set_total, CutPlan, Plan};
+use reference::maker::{document_sample, CutPlan, Plan};
 use reference::numbers::Numbers;
 use reference::published::Product;
-use reference::shapes::{pack_loosely, random_cut, random_plan};
-use reference::spoil::{spoil, spoil_sections};
+use reference::shapes::{random_cut, random_plan};
+use reference::spoil::spoil;
 use reference::{dual, samples};
 use std::fs;
 
@@ -99,14 +100,8 @@ fn every_ray_of_made_files_by_its_record() {
         let (bins, rays) = n.one_of(&[(1, 1), (5, 3), (12, 6), (1, 20), (30, 1)]);
         all_rays(&random_plan(3, bins, rays, &mut n).file());
     }
-    for product in Product::BOTH {
-        let most = product.levels() as u8;
-        let mut levels: Vec<u8> = (0..=most).flat_map(|level| [level; 3]).collect();
-        levels.resize(levels.len().next_multiple_of(8), 0);
-        let rays = levels.len() / 8;
-        let packed = CutPlan::of_levels(8, rays, &levels);
-        let loose = CutPlan::of_data(8, rays, most.into(), pack_loosely(&levels, most, &mut n));
-        all_rays(&Plan::new(product, vec![packed, loose]).file());
+    for file in made::of_every_level(&mut n) {
+        all_rays(&file);
     }
     let cuts = (0..64).map(|_| random_cut(3, 2, Product::Velocity, &mut n)).collect();
     assert_eq!(all_rays(&Plan::new(Product::Velocity, cuts).file()), 128);
@@ -224,19 +219,7 @@ fn spoiled_files() {
     let mut n = Numbers::new(105);
     for _ in 0..2000 {
         let plan = random_unchecked_plan(3, 6, 3, &mut n);
-        let (sections, whole) = (plan.sections(), plan.file());
-        for _ in 0..30 {
-            let mut file = whole.clone();
-            for _ in 0..n.within(1, 3) {
-                if !file.is_empty() {
-                    spoil(&mut file, &mut n);
-                }
-            }
-            all_three(&file, &mut n);
-        }
-        for _ in 0..15 {
-            all_three(&spoil_sections(&sections, &mut n), &mut n);
-        }
+        made::spoilings(&plan.file(), &plan.sections(), 30, &mut n, all_three);
     }
     for case in reference::cases::all() {
         all_three(&case.file, &mut n);
@@ -253,38 +236,25 @@ fn small_file() -> Vec<u8> {
     Plan::new(Product::Velocity, vec![CutPlan::of_data(2, 2, 3, vec![255, 3, 0]), later]).file()
 }
 
-/// Cut off anywhere: with section 0's total as it was, set to what is left, and with an end that looks right.
 #[test]
 fn every_truncation() {
     let record = Record { offset: 1, before: 0 };
     let file = small_file();
     assert_eq!(Compared::new(&file).ray_levels_from(0, 0, record, 2), Ok(()));
-    for len in 0..=file.len() {
-        let mut part = file[..len].to_vec();
-        by_record(&Compared::new(&part), 0, 0, record, 2);
-        if len >= 20 {
-            set_total(&mut part);
-            by_record(&Compared::new(&part), 0, 1, record, 2);
-            part[len - 4..].copy_from_slice(b"7777");
-            by_record(&Compared::new(&part), 0, 0, record, 2);
-        }
-    }
+    made::truncations(&file, |part| {
+        by_record(&Compared::new(part), 0, 0, record, 2);
+        by_record(&Compared::new(part), 0, 1, record, 2);
+    });
 }
 
 #[test]
 fn every_octet_changed() {
     for file in [document_sample().file(), small_file()] {
-        let mut changed = file.clone();
-        for at in 0..file.len() {
-            let kept = file[at];
-            for value in [0, 1, 2, 3, 4, 5, 7, 8, 127, 128, 254, 255, kept ^ 1, kept ^ 128, kept.wrapping_add(1), kept.wrapping_sub(1)] {
-                changed[at] = value;
-                let compared = Compared::new(&changed);
-                by_record(&compared, 0, 0, Record { offset: 2, before: 0 }, 5);
-                compared.build_index(0, 2);
-            }
-            changed[at] = kept;
-        }
+        made::changed_octets(&file, |changed| {
+            let compared = Compared::new(changed);
+            by_record(&compared, 0, 0, Record { offset: 2, before: 0 }, 5);
+            compared.build_index(0, 2);
+        });
     }
 }
 
@@ -293,12 +263,11 @@ fn every_octet_changed() {
 fn arguments_past_every_edge() {
     let file = document_sample().file();
     let compared = Compared::new(&file);
-    let far = [0, 1, 2, 5, 1 << 32, usize::MAX - 1, usize::MAX];
-    for cut in far {
+    for cut in FAR {
         for room in [0, 1, 2, 3] {
             compared.build_index(cut, room);
         }
-        for ray in far {
+        for ray in FAR {
             for record in [(0, 0), (2, 3), (7, 0), (u32::MAX, u32::MAX)] {
                 let record = Record { offset: record.0, before: record.1 };
                 by_record_in_every_room(&compared, cut, ray, record, 5);

@@ -1,9 +1,10 @@
 //! Ray levels, ray values and bin value against the independent reader.
 use differential::compare::Compared;
-use reference::maker::{document_sample, CutPlan, Plan};
+use differential::made;
+use reference::maker::{document_sample, Plan};
 use reference::numbers::Numbers;
 use reference::published::Product;
-use reference::shapes::{pack_loosely, random_cut, random_plan};
+use reference::shapes::{random_cut, random_plan};
 use reference::spoil::spoil;
 
 /// One ray by the two ray calls, at room for its bins, one less and somewhat more.
@@ -58,18 +59,10 @@ fn every_ray_and_bin_of_made_files() {
     }
 }
 
-/// Each level of each product, packed in order, in runs across ray ends, broken and with zero tails.
 #[test]
 fn every_level() {
-    let mut n = Numbers::new(42);
-    for product in Product::BOTH {
-        let most = product.levels() as u8;
-        let mut levels: Vec<u8> = (0..=most).flat_map(|level| [level; 3]).collect();
-        levels.resize(levels.len().next_multiple_of(8), 0);
-        let rays = levels.len() / 8;
-        let packed = CutPlan::of_levels(8, rays, &levels);
-        let loose = CutPlan::of_data(8, rays, most.into(), pack_loosely(&levels, most, &mut n));
-        all_rays_and_bins(&Plan::new(product, vec![packed, loose]).file());
+    for file in made::of_every_level(&mut Numbers::new(42)) {
+        all_rays_and_bins(&file);
     }
 }
 

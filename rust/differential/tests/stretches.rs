@@ -1,5 +1,6 @@
 //! Stretches and the house form against the independent reader.
 use differential::compare::Compared;
+use differential::made::FAR;
 use reference::maker::{document_sample, CutPlan, Plan};
 use reference::numbers::Numbers;
 use reference::published::Product;
@@ -79,11 +80,10 @@ fn every_threshold_that_matters() {
 fn arguments_past_every_edge() {
     let file = document_sample().file();
     let compared = Compared::new(&file);
-    let far = [0, 1, 2, 5, 1 << 32, usize::MAX - 1, usize::MAX];
-    for cut in far {
+    for cut in FAR {
         for t in [i32::MIN, -32768, -32767, 0, 32767, 32768, i32::MAX] {
-            for ray in far {
-                for bin in far {
+            for ray in FAR {
+                for bin in FAR {
                     compared.stretches(cut, t, (ray, bin), 3);
                     compared.stretches(cut, t, (ray, bin), 4);
                 }

@@ -1,4 +1,4 @@
-//! Document 01's calls, those by a record and those on dual-polarisation files as one would write them in Rust for speed, with
+//! The calls of the base format, those by a record and those on dual-polarisation files as one would write them in Rust for speed, with
 //! the same checks and the same work as the proved library: the yardstick of the benchmark. Its own tests hold it to the
 //! independent reader.
 pub mod dual;

@@ -1,23 +1,24 @@
 //! Dual-polarisation files: a second format, with its own files and cuts.
 //!
-//! A value is a 64-bit float in the unit of the file's [`Parameter`], within one part in 2^51 of the exact value. A cell
-//! without a value is `None`, never 0. Each value is a call of its own, and every call checks all the file's sections again:
+//! A value is a 64-bit float in the unit of the file's [`Parameter`], within one part in 2^51 of the exact value. A cell of
+//! all ones is [`Bin::Missing`], never 0: its value is invalid, or nothing was detected, and the file does not say which. Each value is a call of its own, and every call checks all the file's sections again:
 //! its time grows with the number of cuts.
 //!
 //! ```
 //! let octets = include_bytes!("../../../samples/dual.bin");
 //! let file = polar::dual::File::open(octets)?;
 //! for cut in file.cuts() {
-//!     let measured: Vec<f64> = cut.rays().flat_map(|ray| ray.values().flatten().collect::<Vec<_>>()).collect();
-//!     let strongest = measured.iter().copied().fold(f64::NEG_INFINITY, f64::max);
-//!     println!("{} of {} bins measured, up to {strongest} dBZ", measured.len(), cut.bin_count() * cut.ray_count());
+//!     let rays: Vec<polar::Ray<f64>> = cut.rays().collect();
+//!     let measured: Vec<f64> = rays.iter().flat_map(|ray| ray.bins()).filter_map(|bin| bin.measured()).collect();
+//!     let strongest = measured.iter().copied().reduce(f64::max);
+//!     println!("{} of {} bins measured, at most {strongest:?} dBZ", measured.len(), cut.grid().points());
 //! }
 //! # Ok::<(), polar::Refusal>(())
 //! ```
-use crate::{Refusal, Time};
+use crate::indexed::{Indexed, Source};
+use crate::octets::Octets;
+use crate::{Bin, Grid, Ray, Refusal, Time};
 use std::fmt;
-use std::iter::FusedIterator;
-use std::ops::Range;
 
 /// What a file's values are: a number of the format's table of parameters. Numbers that are not in it are read all the same.
 #[derive(Debug, Clone, Copy, PartialEq, Eq, Hash)]
@@ -88,7 +89,7 @@ impl fmt::Display for Parameter {
 /// An accepted dual-polarisation file.
 #[derive(Debug, Clone, Copy)]
 pub struct File<'a> {
-    octets: &'a [u8],
+    octets: Octets<'a>,
     parameter: Parameter,
     time: Time,
     site: u16,
@@ -116,12 +117,12 @@ impl<'a> File<'a> {
         Refusal::check(number, answer[0])?;
         let [_, parameter, year, month, day, hour, minute, second, site, cuts] = answer;
         let time = Time::of_words([year, month, day, hour, minute, second]);
-        Ok(File { octets, parameter: Parameter(parameter as u8), time, site: site as u16, cuts: cuts as usize })
+        Ok(File { octets: Octets(octets), parameter: Parameter(parameter as u8), time, site: site as u16, cuts: cuts as usize })
     }
 
     /// The octets that were opened.
     pub fn octets(&self) -> &'a [u8] {
-        self.octets
+        self.octets.0
     }
 
     /// What its values are.
@@ -147,60 +148,35 @@ impl<'a> File<'a> {
     /// The cut of this index, counted from 0; [`Reason::Argument`](crate::Reason::Argument) where there is none.
     pub fn cut(&self, index: usize) -> Result<Cut<'a>, Refusal> {
         let mut answer = [0; 7];
-        let number = polar_sys::dual_cut(self.octets, index, &mut answer);
+        let number = polar_sys::dual_cut(self.octets(), index, &mut answer);
         Refusal::check(number, answer[0] as u64)?;
-        let [_, bins, rays, latitude, longitude, spacing, start] = answer;
-        Ok(Cut {
-            file: *self,
-            index,
-            bins: bins as usize,
-            rays: rays as usize,
-            latitude,
-            longitude,
-            spacing: spacing as u32,
-            start: start as u32,
-        })
+        let [_, grid @ ..] = answer;
+        Ok(Cut { file: *self, index, grid: Grid::of_words(grid) })
     }
 
     /// All its cuts, in the order of the file.
     pub fn cuts(&self) -> Cuts<'a> {
-        Cuts { file: *self, left: 0..self.cuts }
+        Indexed::new(*self, self.cuts)
     }
 }
 
 /// The cuts of a dual-polarisation file.
-#[derive(Debug, Clone)]
-pub struct Cuts<'a> {
-    file: File<'a>,
-    left: Range<usize>,
-}
+pub type Cuts<'a> = Indexed<File<'a>>;
 
-impl<'a> Iterator for Cuts<'a> {
+impl<'a> Source for File<'a> {
     type Item = Cut<'a>;
 
-    fn next(&mut self) -> Option<Cut<'a>> {
-        self.left.next().map(|index| self.file.cut(index).expect("a cut of an accepted file"))
-    }
-
-    fn size_hint(&self) -> (usize, Option<usize>) {
-        self.left.size_hint()
+    fn item(&self, index: usize) -> Cut<'a> {
+        self.cut(index).expect("a cut of an accepted file")
     }
 }
-
-impl ExactSizeIterator for Cuts<'_> {}
-impl FusedIterator for Cuts<'_> {}
 
 /// One cut of a dual-polarisation file: the rays of one turn of the antenna.
 #[derive(Debug, Clone, Copy)]
 pub struct Cut<'a> {
     file: File<'a>,
     index: usize,
-    bins: usize,
-    rays: usize,
-    latitude: i64,
-    longitude: i64,
-    spacing: u32,
-    start: u32,
+    grid: Grid,
 }
 
 impl<'a> Cut<'a> {
@@ -214,110 +190,52 @@ impl<'a> Cut<'a> {
         self.index
     }
 
-    /// The number of bins on a ray (Nb), 1 to 2048.
-    pub fn bin_count(&self) -> usize {
-        self.bins
+    /// Its bins and rays, and where they lie.
+    pub fn grid(&self) -> Grid {
+        self.grid
     }
 
-    /// The number of rays (Nr), 1 to 1024.
-    pub fn ray_count(&self) -> usize {
-        self.rays
-    }
-
-    /// The middle's latitude in 10^-6 degrees, north positive.
-    pub fn latitude(&self) -> i64 {
-        self.latitude
-    }
-
-    /// The middle's longitude in 10^-6 degrees.
-    pub fn longitude(&self) -> i64 {
-        self.longitude
-    }
-
-    /// The spacing of the bins (Dx) in millimetres, as the file says it.
-    pub fn spacing(&self) -> u32 {
-        self.spacing
-    }
-
-    /// The distance from the middle to the first bin (Dstart) in millimetres.
-    pub fn start(&self) -> u32 {
-        self.start
-    }
-
-    /// The value of one bin in the parameter's unit, or none where it is missing;
-    /// [`Reason::Argument`](crate::Reason::Argument) where there is no such bin.
+    /// What one bin holds, its value in the parameter's unit; [`Reason::Argument`](crate::Reason::Argument) where there is no
+    /// such bin.
     ///
     /// ```
+    /// use polar::Bin;
+    ///
     /// let file = polar::dual::File::open(include_bytes!("../../../samples/dual.bin"))?;
     /// let (low, high) = (file.cut(0)?, file.cut(1)?);
     /// // behind the ridge, and over it
-    /// assert_eq!((low.value(109, 48)?, high.value(109, 48)?), (None, Some(56.59)));
+    /// assert_eq!((low.bin_value(109, 48)?, high.bin_value(109, 48)?), (Bin::Missing, Bin::Measured(56.59)));
     /// // a measured 0 is a value
-    /// assert_eq!(low.value(32, 21)?, Some(0.0));
-    /// assert!(low.value(128, 0).is_err());
+    /// assert_eq!(low.bin_value(32, 21)?, Bin::Measured(0.0));
+    /// assert!(low.bin_value(128, 0).is_err());
     /// # Ok::<(), polar::Refusal>(())
     /// ```
-    pub fn value(&self, ray: usize, bin: usize) -> Result<Option<f64>, Refusal> {
-        let (mut value, mut answer) = (0.0, [0; 2]);
-        let number = polar_sys::dual_bin_value(self.file.octets, self.index, ray, bin, &mut value, &mut answer);
+    pub fn bin_value(&self, ray: usize, bin: usize) -> Result<Bin<f64>, Refusal> {
+        let (mut value, mut answer) = (f64::NAN, [0; 2]);
+        let number = polar_sys::dual_bin_value(self.file.octets(), self.index, ray, bin, &mut value, &mut answer);
         Refusal::check(number, answer[0])?;
-        Ok((answer[1] == 1).then_some(value))
+        Ok(Bin::of_mark(answer[1], value))
     }
 
     /// One ray; [`Reason::Argument`](crate::Reason::Argument) where there is none of this index.
-    pub fn ray(&self, index: usize) -> Result<Ray, Refusal> {
-        let values = (0..self.bins).map(|bin| self.value(index, bin)).collect::<Result<_, _>>()?;
-        Ok(Ray { index, values })
+    pub fn ray(&self, index: usize) -> Result<Ray<f64>, Refusal> {
+        let bins = (0..self.grid.bins).map(|bin| self.bin_value(index, bin)).collect::<Result<_, _>>()?;
+        Ok(Ray::new(index, bins))
     }
 
     /// All its rays, in the order of the file.
     pub fn rays(&self) -> Rays<'a> {
-        Rays { cut: *self, left: 0..self.rays }
-    }
-}
-
-/// One ray of a cut.
-#[derive(Debug, Clone, PartialEq)]
-pub struct Ray {
-    index: usize,
-    values: Vec<Option<f64>>,
-}
-
-impl Ray {
-    /// Its index in the cut, counted from 0.
-    pub fn index(&self) -> usize {
-        self.index
-    }
-
-    /// The value of a bin; none where it is missing, and where there is no such bin.
-    pub fn value(&self, bin: usize) -> Option<f64> {
-        self.values.get(bin).copied().flatten()
-    }
-
-    /// The value of each bin; none where it is missing.
-    pub fn values(&self) -> impl ExactSizeIterator<Item = Option<f64>> + '_ {
-        self.values.iter().copied()
+        Indexed::new(*self, self.grid.rays)
     }
 }
 
 /// The rays of a cut.
-#[derive(Debug, Clone)]
-pub struct Rays<'a> {
-    cut: Cut<'a>,
-    left: Range<usize>,
-}
+pub type Rays<'a> = Indexed<Cut<'a>>;
 
-impl Iterator for Rays<'_> {
-    type Item = Ray;
+impl Source for Cut<'_> {
+    type Item = Ray<f64>;
 
-    fn next(&mut self) -> Option<Ray> {
-        self.left.next().map(|index| self.cut.ray(index).expect("a ray of an accepted file"))
-    }
-
-    fn size_hint(&self) -> (usize, Option<usize>) {
-        self.left.size_hint()
+    fn item(&self, index: usize) -> Ray<f64> {
+        self.ray(index).expect("a ray of an accepted file")
     }
 }
-
-impl ExactSizeIterator for Rays<'_> {}
-impl FusedIterator for Rays<'_> {}

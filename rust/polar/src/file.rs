@@ -1,10 +1,10 @@
 //! Files, cuts and rays.
 use crate::index::{self, RayRecord};
+use crate::indexed::{Indexed, Source};
+use crate::octets::Octets;
 use crate::stretches::Stretches;
-use crate::Refusal;
+use crate::{Bin, Grid, Hundredths, Ray, Refusal, Threshold};
 use std::fmt;
-use std::iter::FusedIterator;
-use std::ops::Range;
 
 /// What a file's values are.
 #[derive(Debug, Clone, Copy, PartialEq, Eq, Hash)]
@@ -69,7 +69,7 @@ impl fmt::Display for Time {
 /// An accepted file.
 #[derive(Debug, Clone, Copy)]
 pub struct File<'a> {
-    octets: &'a [u8],
+    octets: Octets<'a>,
     product: Product,
     time: Time,
     site: u16,
@@ -87,7 +87,7 @@ impl<'a> File<'a> {
     /// assert_eq!((file.product(), file.cut_count()), (Product::Reflectivity, 1));
     ///
     /// let cut_short = File::open(&octets[..500]).unwrap_err();
-    /// assert_eq!((cut_short.reason(), cut_short.number(), cut_short.place()), (Reason::SectionZero, 2, 0));
+    /// assert_eq!((cut_short.reason(), cut_short.number(), cut_short.place()), (Reason::Section0, 2, 0));
     /// # Ok::<(), polar::Refusal>(())
     /// ```
     pub fn open(octets: &'a [u8]) -> Result<File<'a>, Refusal> {
@@ -97,12 +97,12 @@ impl<'a> File<'a> {
         let [_, product, year, month, day, hour, minute, second, site, cuts] = answer;
         let time = Time::of_words([year, month, day, hour, minute, second]);
         let product = if product == 1 { Product::Reflectivity } else { Product::Velocity };
-        Ok(File { octets, product, time, site: site as u16, cuts: cuts as usize })
+        Ok(File { octets: Octets(octets), product, time, site: site as u16, cuts: cuts as usize })
     }
 
     /// The octets that were opened.
     pub fn octets(&self) -> &'a [u8] {
-        self.octets
+        self.octets.0
     }
 
     /// What its values are.
@@ -128,18 +128,13 @@ impl<'a> File<'a> {
     /// The cut of this index, counted from 0; [`Reason::Argument`](crate::Reason::Argument) where there is none.
     pub fn cut(&self, index: usize) -> Result<Cut<'a>, Refusal> {
         let mut answer = [0; 11];
-        let number = polar_sys::cut(self.octets, index, &mut answer);
+        let number = polar_sys::cut(self.octets(), index, &mut answer);
         Refusal::check(number, answer[0] as u64)?;
         let [_, bins, rays, latitude, longitude, spacing, start, azimuth, mode, known, elevation] = answer;
         Ok(Cut {
             file: *self,
             index,
-            bins: bins as usize,
-            rays: rays as usize,
-            latitude,
-            longitude,
-            spacing: spacing as u32,
-            start: start as u32,
+            grid: Grid::of_words([bins, rays, latitude, longitude, spacing, start]),
             azimuth: azimuth as u16,
             mode: mode as u8,
             elevation: (known == 1).then_some(elevation as i16),
@@ -148,43 +143,27 @@ impl<'a> File<'a> {
 
     /// All its cuts, in the order of the file.
     pub fn cuts(&self) -> Cuts<'a> {
-        Cuts { file: *self, left: 0..self.cuts }
+        Indexed::new(*self, self.cuts)
     }
 }
 
 /// The cuts of a file.
-#[derive(Debug, Clone)]
-pub struct Cuts<'a> {
-    file: File<'a>,
-    left: Range<usize>,
-}
+pub type Cuts<'a> = Indexed<File<'a>>;
 
-impl<'a> Iterator for Cuts<'a> {
+impl<'a> Source for File<'a> {
     type Item = Cut<'a>;
 
-    fn next(&mut self) -> Option<Cut<'a>> {
-        self.left.next().map(|index| self.file.cut(index).expect("a cut of an accepted file"))
-    }
-
-    fn size_hint(&self) -> (usize, Option<usize>) {
-        self.left.size_hint()
+    fn item(&self, index: usize) -> Cut<'a> {
+        self.cut(index).expect("a cut of an accepted file")
     }
 }
-
-impl ExactSizeIterator for Cuts<'_> {}
-impl FusedIterator for Cuts<'_> {}
 
 /// One cut of a file: the rays of one turn of the antenna.
 #[derive(Debug, Clone, Copy)]
 pub struct Cut<'a> {
     file: File<'a>,
     index: usize,
-    bins: usize,
-    rays: usize,
-    latitude: i64,
-    longitude: i64,
-    spacing: u32,
-    start: u32,
+    grid: Grid,
     azimuth: u16,
     mode: u8,
     elevation: Option<i16>,
@@ -201,39 +180,14 @@ impl<'a> Cut<'a> {
         self.index
     }
 
-    /// The number of bins on a ray (Nb), 1 to 2048.
-    pub fn bin_count(&self) -> usize {
-        self.bins
+    /// Its bins and rays, and where they lie.
+    pub fn grid(&self) -> Grid {
+        self.grid
     }
 
-    /// The number of rays (Nr), 1 to 1024.
-    pub fn ray_count(&self) -> usize {
-        self.rays
-    }
-
-    /// The middle's latitude in 10^-6 degrees, north positive.
-    pub fn latitude(&self) -> i64 {
-        self.latitude
-    }
-
-    /// The middle's longitude in 10^-6 degrees.
-    pub fn longitude(&self) -> i64 {
-        self.longitude
-    }
-
-    /// The spacing of the bins (Dx) in millimetres, as the file says it.
-    pub fn spacing(&self) -> u32 {
-        self.spacing
-    }
-
-    /// The distance from the middle to the first bin (Dstart) in millimetres.
-    pub fn start(&self) -> u32 {
-        self.start
-    }
-
-    /// The azimuth at which the first ray starts, in hundredths of a degree from north.
-    pub fn start_azimuth(&self) -> u16 {
-        self.azimuth
+    /// The azimuth at which the first ray starts, in hundredths of a degree from north by the east: 0 to 36000.
+    pub fn start_azimuth(&self) -> Hundredths {
+        Hundredths(self.azimuth.into())
     }
 
     /// Octet 38 of section 4, the mode of operation: 0, 1, 2, or 255 where it is missing.
@@ -242,31 +196,42 @@ impl<'a> Cut<'a> {
     }
 
     /// The elevation constant in hundredths of a degree; none where it is missing.
-    pub fn elevation(&self) -> Option<i16> {
-        self.elevation
+    pub fn elevation(&self) -> Option<Hundredths> {
+        self.elevation.map(|angle| Hundredths(angle.into()))
     }
 
     /// One ray; [`Reason::Argument`](crate::Reason::Argument) where there is none of this index.
     ///
     /// ```
+    /// use polar::{Bin::*, Hundredths};
+    ///
     /// let file = polar::File::open(include_bytes!("../../../samples/document01.bin"))?;
     /// let ray = file.cut(0)?.ray(1)?;
-    /// assert_eq!(ray.values().collect::<Vec<_>>(), [Some(4112), Some(0), Some(0), Some(0), None]);
+    /// let zero = Measured(Hundredths(0));
+    /// assert_eq!(ray.bins(), [Measured(Hundredths(4112)), zero, zero, zero, Missing]);
     /// # Ok::<(), polar::Refusal>(())
     /// ```
-    pub fn ray(&self, index: usize) -> Result<Ray, Refusal> {
-        let (mut marks, mut values) = (vec![0; self.bins], vec![0; self.bins]);
-        let mut place = [0];
-        let number = polar_sys::ray_values(self.file.octets, self.index, index, &mut marks, &mut values, &mut place);
-        Refusal::check(number, place[0])?;
-        Ok(Ray { index, marks, values })
+    pub fn ray(&self, index: usize) -> Result<Ray<Hundredths>, Refusal> {
+        self.ray_by(index, |marks, values| {
+            let mut place = [0];
+            let number = polar_sys::ray_values(self.file.octets(), self.index, index, marks, values, &mut place);
+            Refusal::check(number, place[0])
+        })
+    }
+
+    /// One ray, of the marks and values that a call fills in.
+    fn ray_by(&self, index: usize, call: impl FnOnce(&mut [u8], &mut [i32]) -> Result<(), Refusal>) -> Result<Ray<Hundredths>, Refusal> {
+        let (mut marks, mut values) = (vec![0; self.grid.bins], vec![0; self.grid.bins]);
+        call(&mut marks, &mut values)?;
+        let bins = marks.iter().zip(values).map(|(mark, value)| Bin::of_mark((*mark).into(), Hundredths(value)));
+        Ok(Ray::new(index, bins.collect()))
     }
 
     /// The levels of one ray, as they stand in the file; level 0 is missing.
     pub fn ray_levels(&self, index: usize) -> Result<Vec<u8>, Refusal> {
-        let mut levels = vec![0; self.bins];
+        let mut levels = vec![0; self.grid.bins];
         let mut place = [0];
-        let number = polar_sys::ray_levels(self.file.octets, self.index, index, &mut levels, &mut place);
+        let number = polar_sys::ray_levels(self.file.octets(), self.index, index, &mut levels, &mut place);
         Refusal::check(number, place[0])?;
         Ok(levels)
     }
@@ -282,8 +247,8 @@ impl<'a> Cut<'a> {
     /// # Ok::<(), polar::Refusal>(())
     /// ```
     pub fn records(&self) -> Vec<RayRecord> {
-        let mut records = vec![RayRecord::default(); self.rays];
-        index::records(self.file.octets, self.index, &mut records).expect("a cut of an accepted file");
+        let mut records = vec![RayRecord::default(); self.grid.rays];
+        index::records(self.file.octets(), self.index, &mut records).expect("a cut of an accepted file");
         records
     }
 
@@ -298,10 +263,8 @@ impl<'a> Cut<'a> {
     /// assert_eq!(cut.ray_from(500, records[500])?, cut.ray(500)?);
     /// # Ok::<(), polar::Refusal>(())
     /// ```
-    pub fn ray_from(&self, index: usize, record: RayRecord) -> Result<Ray, Refusal> {
-        let (mut marks, mut values) = (vec![0; self.bins], vec![0; self.bins]);
-        index::ray_values(self.file.octets, self.index, index, record, &mut marks, &mut values)?;
-        Ok(Ray { index, marks, values })
+    pub fn ray_from(&self, index: usize, record: RayRecord) -> Result<Ray<Hundredths>, Refusal> {
+        self.ray_by(index, |marks, values| index::ray_values(self.file.octets(), self.index, index, record, marks, values))
     }
 
     /// The levels of one ray, read from a record on, as [`ray_from`](Cut::ray_from) its values.
@@ -313,8 +276,8 @@ impl<'a> Cut<'a> {
     /// # Ok::<(), polar::Refusal>(())
     /// ```
     pub fn ray_levels_from(&self, index: usize, record: RayRecord) -> Result<Vec<u8>, Refusal> {
-        let mut levels = vec![0; self.bins];
-        index::ray_levels(self.file.octets, self.index, index, record, &mut levels)?;
+        let mut levels = vec![0; self.grid.bins];
+        index::ray_levels(self.file.octets(), self.index, index, record, &mut levels)?;
         Ok(levels)
     }
 
@@ -322,81 +285,52 @@ impl<'a> Cut<'a> {
     ///
     /// ```
     /// let file = polar::File::open(include_bytes!("../../../samples/document01.bin"))?;
-    /// let measured: Vec<usize> = file.cut(0)?.rays().map(|ray| ray.values().flatten().count()).collect();
-    /// assert_eq!(measured, [3, 4]);
+    /// let missing = |ray: polar::Ray<_>| ray.bins().iter().filter(|bin| bin.is_missing()).count();
+    /// assert_eq!(file.cut(0)?.rays().map(missing).collect::<Vec<_>>(), [2, 1]);
     /// # Ok::<(), polar::Refusal>(())
     /// ```
     pub fn rays(&self) -> Rays<'a> {
-        Rays { cut: *self, records: self.records(), left: 0..self.rays }
+        Indexed::new(ByRecords { cut: *self, records: self.records() }, self.grid.rays)
     }
 
-    /// The value of one bin in dBZ or m/s, or none where it is missing;
-    /// [`Reason::Argument`](crate::Reason::Argument) where there is no such bin.
+    /// What one bin holds, its value in dBZ or m/s; [`Reason::Argument`](crate::Reason::Argument) where there is no such bin.
     ///
     /// ```
+    /// use polar::Bin;
+    ///
     /// let file = polar::File::open(include_bytes!("../../../samples/document01.bin"))?;
     /// let cut = file.cut(0)?;
-    /// assert_eq!((cut.value(1, 0)?, cut.value(1, 4)?), (Some(41.12), None));
+    /// assert_eq!((cut.bin_value(1, 0)?, cut.bin_value(1, 4)?), (Bin::Measured(41.12), Bin::Missing));
+    /// assert!(cut.bin_value(1, 5).is_err());
     /// # Ok::<(), polar::Refusal>(())
     /// ```
-    pub fn value(&self, ray: usize, bin: usize) -> Result<Option<f64>, Refusal> {
-        let (mut value, mut answer) = (0.0, [0; 2]);
-        let number = polar_sys::bin_value(self.file.octets, self.index, ray, bin, &mut value, &mut answer);
+    pub fn bin_value(&self, ray: usize, bin: usize) -> Result<Bin<f64>, Refusal> {
+        let (mut value, mut answer) = (f64::NAN, [0; 2]);
+        let number = polar_sys::bin_value(self.file.octets(), self.index, ray, bin, &mut value, &mut answer);
         Refusal::check(number, answer[0])?;
-        Ok((answer[1] == 1).then_some(value))
+        Ok(Bin::of_mark(answer[1], value))
     }
 
-    /// Every longest stretch of one kind on each ray, by ray and then by first bin, at a threshold in hundredths;
-    /// [`Reason::Argument`](crate::Reason::Argument) where that is not from -32767 to 32767.
-    pub fn stretches(&self, threshold: i32) -> Result<Stretches<'a>, Refusal> {
+    /// Every longest stretch of one kind on each ray, by ray and then by first bin.
+    pub fn stretches(&self, threshold: Threshold) -> Stretches<'a> {
         Stretches::new(*self, threshold)
     }
 }
 
-/// One ray of a cut.
-#[derive(Debug, Clone, PartialEq, Eq)]
-pub struct Ray {
-    index: usize,
-    marks: Vec<u8>,
-    values: Vec<i32>,
-}
-
-impl Ray {
-    /// Its index in the cut, counted from 0.
-    pub fn index(&self) -> usize {
-        self.index
-    }
-
-    /// The value of a bin in hundredths; none where it is missing, and where there is no such bin.
-    pub fn value(&self, bin: usize) -> Option<i32> {
-        self.marks.get(bin).filter(|mark| **mark == 1).map(|_| self.values[bin])
-    }
-
-    /// The value of each bin in hundredths; none where it is missing.
-    pub fn values(&self) -> impl ExactSizeIterator<Item = Option<i32>> + '_ {
-        self.marks.iter().zip(&self.values).map(|(mark, value)| (*mark == 1).then_some(*value))
-    }
-}
-
 /// The rays of a cut.
-#[derive(Debug, Clone)]
-pub struct Rays<'a> {
+pub type Rays<'a> = Indexed<ByRecords<'a>>;
+
+/// A cut with the records of its rays.
+#[derive(Clone)]
+pub struct ByRecords<'a> {
     cut: Cut<'a>,
     records: Vec<RayRecord>,
-    left: Range<usize>,
 }
 
-impl Iterator for Rays<'_> {
-    type Item = Ray;
+impl Source for ByRecords<'_> {
+    type Item = Ray<Hundredths>;
 
-    fn next(&mut self) -> Option<Ray> {
-        self.left.next().map(|index| self.cut.ray_from(index, self.records[index]).expect("a ray of an accepted file"))
-    }
-
-    fn size_hint(&self) -> (usize, Option<usize>) {
-        self.left.size_hint()
+    fn item(&self, index: usize) -> Ray<Hundredths> {
+        self.cut.ray_from(index, self.records[index]).expect("a ray of an accepted file")
     }
 }
-
-impl ExactSizeIterator for Rays<'_> {}
-impl FusedIterator for Rays<'_> {}

@@ -6,19 +6,19 @@
 //! pieces of a ray that are blind, under a threshold, or at or over it. Octets that are no such file get a [`Refusal`] with
 //! a number, a place in the file and a plain sentence.
 //!
-//! A bin that was not measured has no number: its value is `None`, never 0.
+//! A bin that was not measured has no number: it is [`Bin::Missing`], never 0.
 //!
 //! ```
-//! use polar::{File, Kind, HOUSE_THRESHOLD};
+//! use polar::{File, Kind, Threshold};
 //!
 //! let octets = include_bytes!("../../../samples/document01.bin");
 //! let file = File::open(octets)?;
 //! for cut in file.cuts() {
-//!     for stretch in cut.stretches(HOUSE_THRESHOLD)? {
+//!     for stretch in cut.stretches(Threshold::HOUSE) {
 //!         println!("{} {} {} {}", stretch.ray, stretch.first, stretch.length, stretch.kind);
 //!     }
 //! }
-//! let blind: usize = file.cut(0)?.stretches(HOUSE_THRESHOLD)?.filter(|s| s.kind == Kind::Missing).map(|s| s.length).sum();
+//! let blind: usize = file.cut(0)?.stretches(Threshold::HOUSE).filter(|s| s.kind == Kind::Missing).map(|s| s.length).sum();
 //! assert_eq!(blind, 3);
 //! # Ok::<(), polar::Refusal>(())
 //! ```
@@ -30,16 +30,25 @@
 #![forbid(unsafe_code)]
 #![warn(missing_docs)]
 
+mod bins;
 pub mod dual;
 mod file;
 mod format;
+mod grid;
+mod hundredths;
 pub mod index;
+mod indexed;
+mod octets;
 mod refusal;
 pub mod runs;
 mod stretches;
 
-pub use file::{Cut, Cuts, File, Product, Ray, Rays, Time};
+pub use bins::{Bin, Ray};
+pub use file::{Cut, Cuts, File, Product, Rays, Time};
 pub use format::Format;
+pub use grid::Grid;
+pub use hundredths::{Hundredths, NoThreshold, Threshold};
 pub use index::RayRecord;
+pub use indexed::Indexed;
 pub use refusal::{Reason, Refusal};
-pub use stretches::{Kind, Stretch, Stretches, HOUSE_THRESHOLD};
+pub use stretches::{Kind, Stretch, Stretches};

@@ -1,16 +1,17 @@
-//! Refusals: document 01's numbers and those of wishes 4 and 6, by name.
+//! Refusals by name: FORMAT.md, "Refusals".
 use std::error::Error;
 use std::fmt;
 
 /// Why a call was refused: one case for each number.
 #[derive(Debug, Clone, Copy, PartialEq, Eq, Hash)]
+#[non_exhaustive]
 pub enum Reason {
     /// 1: the file is under 20 or over 8,388,608 octets.
     FileSize = 1,
     /// 2: section 0 is not as it should be.
-    SectionZero = 2,
+    Section0 = 2,
     /// 3: a section's length or number cannot stand where it does, or the end is wrong.
-    Sections = 3,
+    Frame = 3,
     /// 4: a section's own length is wrong.
     SectionLength = 4,
     /// 5: a named field is outside its rule.
@@ -18,11 +19,11 @@ pub enum Reason {
     /// 6: a point count is not bins times rays.
     Points = 6,
     /// 7: the value table differs from the published one.
-    Values = 7,
+    Table = 7,
     /// 8: data opens above V, or gives more or fewer bins than wanted.
     Data = 8,
     /// 9: a 65th cut begins.
-    Cuts = 9,
+    CutCount = 9,
     /// 10: an argument is outside its range.
     Argument = 10,
     /// 11: lent room is too short.
@@ -38,16 +39,17 @@ pub enum Reason {
 }
 
 impl Reason {
-    const ALL: [Reason; 14] = [
+    /// All reasons, in the order of their numbers.
+    pub const ALL: &'static [Reason] = &[
         Reason::FileSize,
-        Reason::SectionZero,
-        Reason::Sections,
+        Reason::Section0,
+        Reason::Frame,
         Reason::SectionLength,
         Reason::Field,
         Reason::Points,
-        Reason::Values,
+        Reason::Table,
         Reason::Data,
-        Reason::Cuts,
+        Reason::CutCount,
         Reason::Argument,
         Reason::Room,
         Reason::V,
@@ -55,7 +57,7 @@ impl Reason {
         Reason::Unread,
     ];
 
-    /// Its number, 1 to 14.
+    /// Its number, from 1 on.
     pub fn number(self) -> u32 {
         self as u32
     }
@@ -64,16 +66,16 @@ impl Reason {
     pub fn meaning(self) -> &'static str {
         match self {
             Reason::FileSize => "the file is shorter than 20 octets or longer than 8,388,608",
-            Reason::SectionZero => {
+            Reason::Section0 => {
                 "this is no radar file, or it was cut short: its first 16 octets are not as they should be, or say another length"
             }
-            Reason::Sections => "the sections do not follow each other as they should, or the file's end is wrong",
+            Reason::Frame => "the sections do not follow each other as they should, or the file's end is wrong",
             Reason::SectionLength => "a section has not the length that it should have",
             Reason::Field => "a field of a section is outside what it may be",
             Reason::Points => "a section's number of points is not its bins times its rays",
-            Reason::Values => "the table of values is not the published one",
+            Reason::Table => "the table of values is not the published one",
             Reason::Data => "the packed data does not give exactly the bins that it should give",
-            Reason::Cuts => "the file has more than 64 cuts",
+            Reason::CutCount => "the file has more than 64 cuts",
             Reason::Argument => "a number that was asked for is outside its range",
             Reason::Room => "the room for the answer is too short",
             Reason::V => "the greatest level of packed data is over 253",
@@ -99,7 +101,7 @@ impl Refusal {
         if number == 0 {
             return Ok(());
         }
-        let reason = Reason::ALL.into_iter().find(|reason| reason.number() == number).expect("a refusal's number");
+        let reason = *Reason::ALL.iter().find(|reason| reason.number() == number).expect("a refusal's number");
         Err(Refusal { reason, place })
     }
 
@@ -108,7 +110,7 @@ impl Refusal {
         self.reason
     }
 
-    /// Its number, 1 to 14.
+    /// Its number, from 1 on.
     pub fn number(self) -> u32 {
         self.reason.number()
     }
@@ -133,7 +135,7 @@ mod tests {
 
     #[test]
     fn numbers_and_reasons_belong_together() {
-        for (reason, number) in Reason::ALL.into_iter().zip(1..=14) {
+        for (reason, number) in Reason::ALL.iter().copied().zip(1..) {
             assert_eq!(reason.number(), number);
             assert_eq!(Refusal::check(number, 7), Err(Refusal { reason, place: 7 }));
         }

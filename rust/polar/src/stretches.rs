@@ -1,11 +1,8 @@
 //! The stretch list of a cut, fetched in portions.
-use crate::{Cut, Refusal};
+use crate::{Cut, Refusal, Threshold};
 use std::fmt;
 use std::iter::FusedIterator;
 use std::mem;
-
-/// The house threshold in hundredths: 40.00 dBZ.
-pub const HOUSE_THRESHOLD: i32 = 4000;
 
 /// Words to an entry, as the library writes them.
 const ENTRY: usize = 4;
@@ -16,18 +13,24 @@ const LARGEST_PORTION: usize = 1 << 18;
 
 /// What the bins of a stretch are.
 #[derive(Debug, Clone, Copy, PartialEq, Eq, PartialOrd, Ord, Hash)]
+#[non_exhaustive]
 pub enum Kind {
     /// Out of range or missing: there is no number.
-    Missing,
+    Missing = 0,
     /// The value is below the threshold.
-    Under,
+    Under = 1,
     /// The value is at or above the threshold.
-    Over,
+    Over = 2,
 }
 
 impl Kind {
     /// All kinds, in the order of their numbers.
-    pub const ALL: [Kind; 3] = [Kind::Missing, Kind::Under, Kind::Over];
+    pub const ALL: &'static [Kind] = &[Kind::Missing, Kind::Under, Kind::Over];
+
+    /// Its number, from 0 on: its place in [`Kind::ALL`].
+    pub fn number(self) -> usize {
+        self as usize
+    }
 }
 
 impl fmt::Display for Kind {
@@ -42,6 +45,7 @@ impl fmt::Display for Kind {
 
 /// A longest stretch of bins of one kind on one ray.
 #[derive(Debug, Clone, Copy, PartialEq, Eq, Hash)]
+#[non_exhaustive]
 pub struct Stretch {
     /// The ray.
     pub ray: usize,
@@ -53,21 +57,27 @@ pub struct Stretch {
     pub kind: Kind,
 }
 
+impl Stretch {
+    /// A stretch as it would stand in a list, for what is made of lists to be tried without a file.
+    pub fn new(ray: usize, first: usize, length: usize, kind: Kind) -> Stretch {
+        Stretch { ray, first, length, kind }
+    }
+}
+
 /// The stretches of a cut, by ray and then by first bin.
 ///
 /// ```
-/// use polar::{File, Kind, Stretch};
+/// use polar::{File, Kind, Stretch, Threshold};
 ///
 /// let file = File::open(include_bytes!("../../../samples/document01.bin"))?;
-/// let first = file.cut(0)?.stretches(4000)?.next();
-/// assert_eq!(first, Some(Stretch { ray: 0, first: 0, length: 2, kind: Kind::Missing }));
-/// assert_eq!(file.cut(0)?.stretches(40000).unwrap_err().number(), 10);
-/// # Ok::<(), polar::Refusal>(())
+/// let first = file.cut(0)?.stretches(Threshold::from_dbz(40.0)?).next();
+/// assert_eq!(first, Some(Stretch::new(0, 0, 2, Kind::Missing)));
+/// # Ok::<(), Box<dyn std::error::Error>>(())
 /// ```
-#[derive(Debug, Clone)]
+#[derive(Clone)]
 pub struct Stretches<'a> {
     cut: Cut<'a>,
-    threshold: i32,
+    threshold: Threshold,
     words: Vec<u32>,
     /// the words of `words` that are still to be handed out
     at: usize,
@@ -76,21 +86,28 @@ pub struct Stretches<'a> {
     point: (usize, usize),
 }
 
+impl fmt::Debug for Stretches<'_> {
+    fn fmt(&self, f: &mut fmt::Formatter<'_>) -> fmt::Result {
+        let Stretches { cut, threshold, point, .. } = self;
+        f.debug_struct("Stretches").field("cut", cut).field("threshold", threshold).field("point", point).finish_non_exhaustive()
+    }
+}
+
 impl<'a> Stretches<'a> {
-    pub(crate) fn new(cut: Cut<'a>, threshold: i32) -> Result<Self, Refusal> {
+    pub(crate) fn new(cut: Cut<'a>, threshold: Threshold) -> Self {
         let mut list = Stretches { cut, threshold, words: vec![0; ENTRY * FIRST_PORTION], at: 0, end: 0, point: (0, 0) };
-        list.fetch()?;
-        Ok(list)
+        list.fetch();
+        list
     }
 
-    fn fetch(&mut self) -> Result<(), Refusal> {
+    /// The portion from `point` on. A cut of an accepted file, a threshold and a point of its own: nothing is refused.
+    fn fetch(&mut self) {
         let mut answer = [0; 4];
-        let number =
-            polar_sys::stretches(self.cut.file().octets(), self.cut.index(), self.threshold, self.point, &mut self.words, &mut answer);
+        let t = self.threshold.hundredths().0;
+        let number = polar_sys::stretches(self.cut.file().octets(), self.cut.index(), t, self.point, &mut self.words, &mut answer);
         let [place, count, ray, bin] = answer;
-        Refusal::check(number, place)?;
+        Refusal::check(number, place).expect("a portion of an accepted file's list");
         (self.at, self.end, self.point) = (0, ENTRY * count as usize, (ray as usize, bin as usize));
-        Ok(())
     }
 }
 
@@ -99,7 +116,7 @@ impl Iterator for Stretches<'_> {
 
     fn next(&mut self) -> Option<Stretch> {
         if self.at == self.end {
-            if self.point == (self.cut.ray_count(), 0) {
+            if self.point == (self.cut.grid().rays, 0) {
                 return None;
             }
             // the words are not read again, so the longer room need not keep them
@@ -108,7 +125,7 @@ impl Iterator for Stretches<'_> {
                 drop(mem::take(&mut self.words));
                 self.words = vec![0; longer];
             }
-            self.fetch().expect("the next portion of an accepted file");
+            self.fetch();
         }
         let entry = self.words[self.at..self.end].first_chunk::<ENTRY>()?;
         self.at += ENTRY;

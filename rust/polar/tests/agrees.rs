@@ -1,5 +1,8 @@
 //! The safe crate against the independent reader: what it makes of the library's answers.
-use polar::{index, File, Kind, Product, RayRecord, Reason};
+mod common;
+
+use common::{agree_on_grid, shown, told};
+use polar::{index, Bin, File, Hundredths, Product, RayRecord, Reason, Threshold};
 use reference::index::shapes::{random_record, random_unchecked_plan};
 use reference::index::{cases as records, Record};
 use reference::layout::{unchecked, verdict};
@@ -19,8 +22,17 @@ fn refusals_have_their_number_and_place() {
 }
 
 fn entries(cut: &polar::Cut, threshold: i32) -> Vec<[u32; 4]> {
-    let kind = |kind: Kind| Kind::ALL.iter().position(|k| *k == kind).unwrap() as u32;
-    cut.stretches(threshold).unwrap().map(|s| [s.ray as u32, s.first as u32, s.length as u32, kind(s.kind)]).collect()
+    let stretches = cut.stretches(Threshold::from_hundredths(threshold).unwrap());
+    stretches.map(|s| [s.ray, s.first, s.length, s.kind.number()].map(|word| word as u32)).collect()
+}
+
+/// What a level of the independent reader is in the safe crate's words.
+fn bin(value: Option<i32>) -> Bin<Hundredths> {
+    value.map_or(Bin::Missing, |hundredths| Bin::Measured(Hundredths(hundredths)))
+}
+
+fn in_units(bin: Bin<Hundredths>) -> Bin<f64> {
+    bin.measured().map_or(Bin::Missing, |hundredths| Bin::Measured(hundredths.to_f64()))
 }
 
 #[test]
@@ -33,32 +45,26 @@ fn made_files() {
         }
         let (found, expected) = (File::open(&octets), verdict(&octets));
         let (Ok(file), Ok(accepted)) = (&found, &expected) else {
-            assert_eq!(found.map_err(|r| (r.number(), r.place())).err(), expected.map_err(|r| (r.number, r.place)).err());
+            assert_eq!(found.err().map(told), expected.err());
             continue;
         };
         let product = if accepted.product == published::Product::Velocity { Product::Velocity } else { Product::Reflectivity };
         assert_eq!((file.product(), file.cut_count(), u64::from(file.site())), (product, accepted.cuts.len(), accepted.site));
-        let [year, month, day, hour, minute, second] = accepted.time;
-        assert_eq!(file.time().to_string(), format!("{year}-{month:02}-{day:02}T{hour:02}:{minute:02}:{second:02}Z"));
+        assert_eq!(file.time().to_string(), shown(accepted.time));
         for (cut, of_cut) in file.cuts().zip(&accepted.cuts) {
-            let grid = of_cut.grid;
-            assert_eq!((cut.bin_count(), cut.ray_count(), cut.latitude()), (grid.bins, grid.rays, grid.latitude));
-            assert_eq!(
-                (u64::from(cut.spacing()), u64::from(cut.start()), u64::from(cut.start_azimuth())),
-                (grid.dx, grid.dstart, grid.azimuth)
-            );
-            assert_eq!(
-                (cut.elevation().map(i64::from), cut.mode(), cut.longitude() as u64),
-                (of_cut.elevation, of_cut.mode, grid.longitude)
-            );
+            agree_on_grid(cut.grid(), of_cut.grid.circle());
+            let hundredths = |known: Hundredths| i64::from(known.0);
+            assert_eq!((cut.elevation().map(hundredths), cut.mode()), (of_cut.elevation, of_cut.mode));
+            assert_eq!(hundredths(cut.start_azimuth()), of_cut.grid.azimuth as i64);
             for ray in cut.rays() {
-                let expected: Vec<Option<i32>> = of_cut.ray(ray.index()).iter().map(|level| accepted.product.value(*level)).collect();
-                assert_eq!(ray.values().collect::<Vec<_>>(), expected);
+                let expected: Vec<_> = of_cut.ray(ray.index()).iter().map(|level| bin(accepted.product.value(*level))).collect();
+                assert_eq!(ray.bins(), expected);
                 assert_eq!(cut.ray_levels(ray.index()).unwrap(), of_cut.ray(ray.index()));
                 assert_eq!(cut.ray(ray.index()).unwrap(), ray);
-                let bin = n.below(grid.bins);
-                assert_eq!(cut.value(ray.index(), bin).unwrap(), expected[bin].map(|value| f64::from(value) / 100.0));
-                assert_eq!((ray.value(bin), ray.value(grid.bins)), (expected[bin], None));
+                let k = n.below(expected.len());
+                assert_eq!(cut.bin_value(ray.index(), k), Ok(in_units(expected[k])));
+                let past = cut.bin_value(ray.index(), expected.len());
+                assert_eq!(past.unwrap_err().reason(), Reason::Argument);
             }
             assert_eq!(entries(&cut, 1234), list(of_cut, accepted.product, 1234));
         }
@@ -95,7 +101,7 @@ fn records_of_made_files() {
                 assert_eq!(cut.ray_from(ray, *record), cut.ray(ray));
                 assert_eq!(cut.ray_levels_from(ray, *record), cut.ray_levels(ray));
             }
-            let past = cut.ray_count();
+            let past = cut.grid().rays;
             assert_eq!(cut.ray_from(past, index[0]).unwrap_err().reason(), Reason::Argument);
             assert_eq!(cut.ray_levels_from(past, index[0]).unwrap_err().reason(), Reason::Argument);
             let mut room = vec![RayRecord { offset: 9, before: 9 }; past - 1];
@@ -125,9 +131,39 @@ fn any_record() {
         let (mut marks, mut values, mut marks_too, mut values_too) = ([9; 8], [9; 8], [9; 8], [9; 8]);
         let found = index::ray_values(&octets, k, ray, ray_record(record), &mut marks, &mut values);
         let expected = but_8.ray_values_from(k, ray, record, &mut marks_too, &mut values_too);
-        assert_eq!(found.map_err(|r| (r.number(), r.place())), expected.map_err(|r| (r.number, r.place)));
+        assert_eq!(found.map_err(told), expected);
         assert_eq!((marks, values), (marks_too, values_too));
         by_record += usize::from(found.is_err_and(|refusal| refusal.reason() == Reason::Record));
     }
     assert!(by_record > 400, "{by_record}");
+}
+
+/// A file of any size, its cuts, rays and lists are shown in a line, and what is missing is not shown as a number.
+#[test]
+fn shown_shortly() {
+    let octets = Plan::new(published::Product::Reflectivity, vec![CutPlan::of_levels(2048, 1024, &vec![0; 2048 * 1024])]).file();
+    let file = File::open(&octets).unwrap();
+    let cut = file.cut(0).unwrap();
+    let length = format!("{} octets", octets.len());
+    for text in [format!("{file:?}"), format!("{cut:?}"), format!("{:?}", cut.stretches(Threshold::HOUSE))] {
+        assert!(text.contains(&length) && text.len() < 1000, "{text}");
+    }
+    assert!(format!("{:?} {:?}", file.cuts(), cut.rays()).len() < 1000);
+    assert!(!format!("{:?}", cut.ray(0).unwrap().bins()).contains('0'));
+}
+
+/// Cuts and rays from either end, and from the middle.
+#[test]
+fn either_end() {
+    let mut n = Numbers::new(87);
+    let octets = random_plan(3, 20, 8, &mut n).file();
+    let file = File::open(&octets).unwrap();
+    let mut backwards: Vec<usize> = file.cuts().rev().map(|cut| cut.index()).collect();
+    backwards.reverse();
+    assert_eq!(backwards, (0..file.cut_count()).collect::<Vec<_>>());
+    let cut = file.cut(0).unwrap();
+    let mut rays = cut.rays();
+    assert_eq!(rays.len(), cut.grid().rays);
+    assert_eq!(rays.nth(cut.grid().rays - 1), cut.ray(cut.grid().rays - 1).ok());
+    assert_eq!((rays.len(), rays.next(), rays.next_back()), (0, None, None));
 }

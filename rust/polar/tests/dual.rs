@@ -1,6 +1,9 @@
 //! The safe crate's dual-polarisation files against the independent reader.
+mod common;
+
+use common::{agree_on_grid, shown, told};
 use polar::dual::{File, Parameter};
-use polar::{Format, Reason};
+use polar::{Bin, Format, Reason};
 use reference::dual::cases;
 use reference::dual::layout::verdict;
 use reference::dual::maker::Plan;
@@ -30,27 +33,24 @@ fn made_files() {
         }
         let (found, expected) = (File::open(&octets), verdict(&octets));
         let (Ok(file), Ok(accepted)) = (&found, &expected) else {
-            assert_eq!(found.map_err(|r| (r.number(), r.place())).err(), expected.map_err(|r| (r.number, r.place)).err());
+            assert_eq!(found.err().map(told), expected.err());
             continue;
         };
         assert_eq!(Format::of(&octets), Format::Dual);
         assert_eq!((file.parameter(), u64::from(file.site())), (Parameter::new(accepted.parameter), accepted.site));
-        let [year, month, day, hour, minute, second] = accepted.time;
-        assert_eq!(file.time().to_string(), format!("{year}-{month:02}-{day:02}T{hour:02}:{minute:02}:{second:02}Z"));
+        assert_eq!(file.time().to_string(), shown(accepted.time));
         assert_eq!((file.cut_count(), file.cuts().len()), (accepted.cuts.len(), accepted.cuts.len()));
         for (cut, of_cut) in file.cuts().zip(&accepted.cuts) {
             let grid = of_cut.grid;
-            assert_eq!((cut.bin_count(), cut.ray_count(), cut.latitude()), (grid.bins, grid.rays, grid.latitude));
-            assert_eq!((cut.longitude() as u64, u64::from(cut.spacing()), u64::from(cut.start())), (grid.longitude, grid.dx, grid.dstart));
+            agree_on_grid(cut.grid(), grid);
             for ray in cut.rays() {
-                let cells = (0..grid.bins).map(|bin| of_cut.cell(ray.index(), bin).map(|z| of_cut.packing.value(z)));
-                assert_eq!(ray.values().collect::<Vec<_>>(), cells.collect::<Vec<_>>());
+                let cell = |bin| of_cut.cell(ray.index(), bin).map_or(Bin::Missing, |z| Bin::Measured(of_cut.packing.value(z)));
+                assert_eq!(ray.bins(), (0..grid.bins).map(cell).collect::<Vec<_>>());
                 let bin = n.below(grid.bins);
-                assert_eq!(cut.value(ray.index(), bin), Ok(ray.value(bin)));
-                assert_eq!(ray.value(grid.bins), None);
+                assert_eq!(cut.bin_value(ray.index(), bin), Ok(ray.bins()[bin]));
             }
             assert_eq!(cut.ray(grid.rays).map_err(|refusal| refusal.number()), Err(10));
-            assert_eq!(cut.value(0, grid.bins).map_err(|refusal| refusal.number()), Err(10));
+            assert_eq!(cut.bin_value(0, grid.bins).map_err(|refusal| refusal.number()), Err(10));
         }
         assert_eq!(file.cut(file.cut_count()).unwrap_err().number(), 10);
     }
@@ -80,4 +80,18 @@ fn parameters_of_the_table() {
         assert_eq!((parameter.number(), parameter.abbreviation().map(str::len)), (number, Some(3)));
     }
     assert_eq!((Parameter::new(200).abbreviation(), Parameter::new(255).unit()), (None, None));
+}
+
+/// The rules list the same parameters, in the same words.
+#[test]
+fn parameters_of_the_rules() {
+    let rules = include_str!("../../../docs/FORMAT.md");
+    let list =
+        rules.split("**Parameters.** Octet 11 of section 4: ").nth(1).expect("the parameters").split(". ").next().expect("their end");
+    let listed: Vec<String> = list.split(';').map(|entry| entry.split_whitespace().collect::<Vec<_>>().join(" ")).collect();
+    let told = |parameter: Parameter| {
+        let unit = parameter.unit().map_or(String::new(), |unit| format!(", {unit}"));
+        Some(format!("{} {} ({}{unit})", parameter.number(), parameter.name()?, parameter.abbreviation()?))
+    };
+    assert_eq!(listed, (0..=255).filter_map(|number| told(Parameter::new(number))).collect::<Vec<_>>());
 }

@@ -1,4 +1,4 @@
-//! Files with the verdict that document 01 gives each, said by hand: every named field one below, at and one past each end
+//! Files with the verdict that the rules give each, said by hand: every named field one below, at and one past each end
 //! of its range, every length one off, the order of sections, the order of checks, the limits.
 use crate::frame::{GREATEST_FILE, MOST_CUTS};
 use crate::maker::{assemble, set_total, CutPlan, Plan, Section};

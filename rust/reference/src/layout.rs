@@ -1,4 +1,4 @@
-//! "Sections" and "Refusal numbers": the verdict on any octets, by document 01's own sections 3, 4, 5 and 7.
+//! FORMAT.md, "Sections", and "Order of checks": the verdict on any octets, by the base format's own sections 3, 4, 5 and 7.
 use crate::frame::{circle, walk, Circle, Format, Section};
 use crate::octets::signed;
 use crate::published::Product;

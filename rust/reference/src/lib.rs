@@ -1,9 +1,9 @@
-//! A second view of what polar radar files mean, written from document 01 and wishes 4 and 6 alone and by other means than the
-//! proved library: whole decoded cuts, iterators, exact arithmetic, no concern for speed. The tests hold the proved library to it.
+//! A second view of what polar radar files mean, written from the rules of docs/FORMAT.md alone and by other means than
+//! the proved library: whole decoded cuts, iterators, exact arithmetic, no concern for speed. The tests hold the proved library to it.
 //!
 //! * [`octets`], [`published`], [`runs`]: numbers in a file, published values, the run-length rule
 //! * [`frame`], [`layout`]: which octets are an accepted file, and how any others are refused
-//! * [`calls`], [`stretches`], [`lister`]: document 01's calls and the text of the list
+//! * [`calls`], [`stretches`], [`lister`]: the calls and the text of the list
 //! * [`maker`], [`shapes`], [`scene`], [`cases`], [`spoil`]: made files, random sound ones, weather, files with their verdicts,
 //!   spoiled files
 //! * [`index`]: a record for each ray, and the ray calls by a record, with their own cases and shapes

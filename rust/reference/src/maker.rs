@@ -190,7 +190,7 @@ pub fn elevation(hundredths: i32) -> u16 {
     u16::from_be_bytes(signed16(hundredths))
 }
 
-/// The sample of document 01: 689 octets.
+/// The sample of FORMAT.md, "The lister": 689 octets.
 pub fn document_sample() -> Plan {
     Plan::new(Product::Reflectivity, vec![CutPlan::of_data(5, 2, 130, vec![0, 132, 130, 134, 1, 133, 0])])
 }

@@ -1,8 +1,9 @@
 //! What is stored: the files of samples/, and what the programs `lister` and `samples` are run on, with what each must
 //! print by this reader. `make-samples` writes it; a test holds what is stored to it.
 use crate::cases;
+use crate::frame::Circle;
 use crate::lister;
-use crate::maker::{document_sample, CutPlan, Plan};
+use crate::maker::{circle, document_sample, CutPlan, Plan};
 use crate::numbers::Numbers;
 use crate::published::Product;
 use crate::scene::rainy_day;
@@ -15,7 +16,7 @@ use std::path::{Path, PathBuf};
 
 pub type Files = BTreeMap<PathBuf, Vec<u8>>;
 
-/// The files of samples/ in the base format: what each shows is said in samples/README.md.
+/// The small files of samples/ in the base format: what each shows is said in samples/README.md.
 fn shown() -> Vec<(&'static str, Vec<u8>)> {
     let day = rainy_day();
     let ridge = day.plan(Product::Reflectivity, &[(120, 0.3), (120, 1.1), (110, 2.6)]).file();
@@ -32,12 +33,26 @@ fn shown() -> Vec<(&'static str, Vec<u8>)> {
     ]
 }
 
-/// The same day by a dual-polarisation radar, low and over the ridge.
+/// The same day by a dual-polarisation radar, low and over the ridge: bins of 1 km on 128 rays.
 fn dual() -> Vec<u8> {
-    rainy_day().dual_plan(&[(60, 0.3), (50, 2.6)]).file()
+    let coarse = |bins| Circle { dx: 1_000_000, ..circle(bins, 128) };
+    rainy_day().dual_plan(&[(coarse(60), 0.3), (coarse(50), 2.6)]).file()
 }
 
-/// The files that the program `samples` lists: those of samples/ in the base format, cases of every refusal, random and spoiled ones.
+/// The same day as the paper of the base format has a file: 512 rays, bins of 500 m, every elevation of ten minutes with the reach that
+/// it has. It is longer than the program `lister` reads.
+fn ridge_full() -> Vec<u8> {
+    let low = [0.0, 0.3, 0.7, 1.1, 1.8, 2.6].map(|angle| (500, angle));
+    let high = [(400, 3.8), (300, 5.4), (200, 7.7), (150, 10.8), (100, 15.2), (60, 21.3)];
+    rainy_day().plan(Product::Reflectivity, &[&low[..], &high].concat()).file()
+}
+
+/// The same day as the paper of the dual-polarisation format has a file: one scan, 0.25 km and 0.7 degrees.
+fn dual_full() -> Vec<u8> {
+    rainy_day().dual_plan(&[(Circle { dx: 250_000, ..circle(600, 512) }, 0.3)]).file()
+}
+
+/// The files that the program `samples` lists: the small ones of samples/ in the base format, cases of every refusal, random and spoiled ones.
 fn listed() -> BTreeMap<String, Vec<u8>> {
     let mut files: BTreeMap<String, Vec<u8>> = shown().into_iter().map(|(name, file)| (name.into(), file)).collect();
     let mut seen = BTreeMap::new();
@@ -66,7 +81,9 @@ fn listed() -> BTreeMap<String, Vec<u8>> {
 /// Everything stored, by its path from the top.
 pub fn all() -> Files {
     let mut files: Files = shown().into_iter().map(|(name, file)| (Path::new("samples").join(name), file)).collect();
-    files.insert("samples/dual.bin".into(), dual());
+    for (name, file) in [("dual.bin", dual()), ("ridge-full.bin", ridge_full()), ("dual-full.bin", dual_full())] {
+        files.insert(Path::new("samples").join(name), file);
+    }
     let sample = document_sample().file();
     files.insert("crates/lister/stdout".into(), lister::text(&sample).into());
     files.insert("crates/lister/stdin".into(), sample);

@@ -4,7 +4,7 @@ use crate::dual::maker as dual;
 use crate::dual::packing::Packing;
 use crate::frame::Circle;
 use crate::layout::Grid;
-use crate::maker::{circle, elevation, grid, CutPlan, Plan};
+use crate::maker::{elevation, grid, CutPlan, Plan};
 use crate::numbers::Numbers;
 use crate::published::Product;
 
@@ -140,24 +140,22 @@ impl Scene {
         })
     }
 
-    /// A cut of horizontal reflectivity as dual-polarisation radars send it: bins of 1 km on 128 rays begun at the north, in
-    /// hundredths of dBZ from -32 on; no value where the ridge hides and where there is no echo.
-    pub fn dual_cut(&self, bins: usize, angle: f64) -> dual::CutPlan {
-        let rays = 128;
-        let circle = Circle { dx: 1_000_000, ..circle(bins, rays) };
+    /// A cut of horizontal reflectivity as dual-polarisation radars send it: rays begun at the north, in hundredths of dBZ from
+    /// -32 on; no value where the ridge hides and where there is no echo.
+    pub fn dual_cut(&self, circle: Circle, angle: f64) -> dual::CutPlan {
         let packing = Packing { r: (-3200f32).to_bits(), e: 0, d: 2, width: 16 };
         let cells = self.look(&Grid::new(circle, 0), angle, |sight, rough| match self.echo(sight, rough) {
             Some(dbz) if !sight.hidden => ((dbz + 32.0) * 100.0).round() as u16,
             _ => packing.all_ones(),
         });
-        let mut cut = dual::CutPlan::new(bins, rays, packing, cells);
+        let mut cut = dual::CutPlan::new(circle.bins, circle.rays, packing, cells);
         (cut.grid, cut.elevation) = (circle, elevation((angle * 100.0).round() as i32));
         cut
     }
 
-    /// A file of such cuts, each its number of bins and its elevation.
-    pub fn dual_plan(&self, cuts: &[(usize, f64)]) -> dual::Plan {
-        dual::Plan::new(cuts.iter().map(|(bins, angle)| self.dual_cut(*bins, *angle)).collect())
+    /// A file of such cuts, each its grid and its elevation.
+    pub fn dual_plan(&self, cuts: &[(Circle, f64)]) -> dual::Plan {
+        dual::Plan::new(cuts.iter().map(|(circle, angle)| self.dual_cut(*circle, *angle)).collect())
     }
 
     /// A cut at an elevation in degrees: `bins` of 500 m on each of 512 rays.

@@ -1,4 +1,4 @@
-//! Wish 4 on this reader: the stated cases, and what ties its calls to the plain ones.
+//! FORMAT.md, "Rays by a record", on this reader: the stated cases, and what ties its calls to the plain ones.
 use reference::exact::Natural;
 use reference::index::shapes::{long_run, random_record, random_unchecked_plan};
 use reference::index::{build_index, cases, ray_levels_from, ray_values_from, Record};

@@ -1,4 +1,4 @@
-//! Files of the second format with the verdict that wish 6 gives each, said by hand: every named field one below, at and one
+//! Files of the second format with the verdict that the rules give each, said by hand: every named field one below, at and one
 //! past each end of its range, every flag and length, the order of checks, the limits.
 use super::maker::{CutPlan, Flags, Plan};
 use super::packing::Packing;

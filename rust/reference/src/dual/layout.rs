@@ -1,4 +1,4 @@
-//! The verdict on any octets: wish 6's own sections 3, 4, 5 and 7.
+//! The verdict on any octets: FORMAT.md, "Dual-polarisation files", sections 3, 4, 5 and 7.
 use super::packing::Packing;
 use crate::frame::{circle, walk, Circle, Format, Section};
 use crate::Refusal;

@@ -1,4 +1,4 @@
-//! The second format: dual-polarisation files, written from wish 6 and source document 004 alone.
+//! The second format: dual-polarisation files, written from FORMAT.md, "Dual-polarisation files", alone.
 //!
 //! * [`packing`]: what a cell stands for, exactly and as a float
 //! * [`layout`], [`calls`]: which octets are an accepted file, and the three calls

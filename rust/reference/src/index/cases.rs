@@ -1,4 +1,4 @@
-//! Records with what wish 4 makes of each, said by hand.
+//! Records with what FORMAT.md, "Rays by a record", makes of each, said by hand.
 use super::shapes::long_run;
 use super::Record;
 use crate::maker::{document_sample, CutPlan, Plan};

@@ -1,4 +1,4 @@
-//! Wish 4: for a cut an index, a record for each ray, and the two ray calls by a record.
+//! FORMAT.md, "Rays by a record": for a cut an index, a record for each ray, and the two ray calls by a record.
 pub mod cases;
 pub mod shapes;
 

@@ -1,4 +1,4 @@
-//! Document 01's "Checked examples" and the stated cases, on this reader.
+//! FORMAT.md, "Checked examples", and the stated cases, on this reader.
 use reference::layout::verdict;
 use reference::{calls, cases, lister, maker, stretches};
 
@@ -14,15 +14,9 @@ fn stated_cases() {
 fn the_documents_sample() {
     let file = maker::document_sample().file();
     assert_eq!(file.len(), 689);
-    let text = "\
-cut 0 product 1 bins 5 rays 2 threshold 4000
-0 0 2 missing
-0 2 3 over
-1 0 1 over
-1 1 3 under
-1 4 1 missing
-end 5
-";
+    // the output that the rules have stands in a block of its own
+    let rules = include_str!("../../../docs/FORMAT.md");
+    let text = rules.split("```\n").nth(1).expect("the lister's output");
     assert_eq!(lister::text(&file), text);
     assert_eq!(lister::text(&file[..688]), "refused 2 at 0\n");
     assert_eq!(lister::text(&[0; 65_537]), "refused 1 at 0\n");
