@@ -8,9 +8,9 @@ use borrow.Author.Tests.{ltb-true}
 use lib.Dec.{ltb}
 use lib.ListN.{length, getD}
 use Rattle.sections.specs.Refusal.{refuse}
-use Rattle.sections.specs.Checks.{Own}
+use Rattle.sections.specs.Checks.{FormatChecks}
 use Rattle.sections.specs.Verdict.{Verdict, accepted, refused, noCut, verdictBy}
-use Rattle.sections.specs.Accepted.{Kinds, AcceptedBy}
+use Rattle.sections.specs.Accepted.{Format, AcceptedBy}
 use Rattle.sections.specs.Exact.{Exact}
 use Rattle.sections.specs.declared.Cut.{Cut}
 use Rattle.sections.specs.declared.Refusal.{Refusal}
@@ -18,18 +18,18 @@ use Rattle.sections.specs.declared.Why.the-variants.{Argument}
 use Rattle.walks.specs.Answer.{answerFor}
 use Rattle.walks.specs.declared.Found.{Found}
 use Rattle.walks.specs.declared.Walked.the-variants as W
-use Rattle.layout.specs.Checks.{ownChecks, anyDataChecks}
-use Rattle.layout.specs.Accepted.{kinds, anyDataKinds}
-use Rattle.layout.specs.Verdict.{verdict, anyDataVerdict}
-use Rattle.layout.specs.Good.{GoodCut, AnyDataCut}
-use Rattle.layout.proofs.Exact.{exact, any-exact}
-use Rattle.layout.proofs.GoodCuts.{good-accepted, any-cut-of}
-use Rattle.duallayout.specs.Checks.{ownChecks as dualChecks}
-use Rattle.duallayout.specs.Accepted.{kinds as dualKinds}
-use Rattle.duallayout.specs.Verdict.{verdict as dualVerdict}
-use Rattle.duallayout.specs.Good.{GoodCut as DualGoodCut}
-use Rattle.duallayout.proofs.Exact.{exact as dual-exact}
-use Rattle.duallayout.proofs.GoodCuts.{good-accepted as dual-good-accepted}
+use Rattle.base_format.specs.Checks.{baseChecks, anyDataChecks}
+use Rattle.base_format.specs.Accepted.{baseFormat, anyDataFormat}
+use Rattle.base_format.specs.Verdict.{verdict, anyDataVerdict}
+use Rattle.base_format.specs.Good.{GoodCut, AnyDataCut}
+use Rattle.base_format.proofs.Exact.{exact, any-exact}
+use Rattle.base_format.proofs.GoodCuts.{good-accepted, any-cut-of}
+use Rattle.dual_format.specs.Checks.{dualChecks}
+use Rattle.dual_format.specs.Accepted.{dualFormat}
+use Rattle.dual_format.specs.Verdict.{verdict as dualVerdict}
+use Rattle.dual_format.specs.Good.{GoodCut as DualGoodCut}
+use Rattle.dual_format.proofs.Exact.{exact as dual-exact}
+use Rattle.dual_format.proofs.GoodCuts.{good-accepted as dual-good-accepted}
 use Rattle.calls.specs.Cuts.{onFile, onCut, cutAt, soughtIn, soughtBy}
 use Rattle.calls.specs.declared.Sought.the-variants.{Cut as Is, Refused}
 
@@ -90,18 +90,18 @@ module _ (i : ℕ) (v : Verdict) where
 
 -- ── it is good, as the cuts of an accepted file are ──
 
-sought-good : (own : Own) (kinds : Kinds) (exact : Exact own kinds) (s : List ℕ) (P : Cut → Type 0)
-    → ((cs : List Cut) → AcceptedBy kinds s cs → (i : ℕ) → i < length cs → P (getD cs i noCut)) → (i : ℕ) (c : Cut) → soughtIn i (verdictBy own s) ≡ Is c → P c
-sought-good own kinds exact s P each i c h = cut-sought i (verdictBy own s) c P h (λ cs e lt. each cs (exact .accepted-only s cs e) i lt)
+sought-good : (own : FormatChecks) (baseFormat : Format) (exact : Exact own baseFormat) (s : List ℕ) (P : Cut → Type 0)
+    → ((cs : List Cut) → AcceptedBy baseFormat s cs → (i : ℕ) → i < length cs → P (getD cs i noCut)) → (i : ℕ) (c : Cut) → soughtIn i (verdictBy own s) ≡ Is c → P c
+sought-good own baseFormat exact s P each i c h = cut-sought i (verdictBy own s) c P h (λ cs e lt. each cs (exact .accepted-only s cs e) i lt)
 
 pub good-cut : (s : List ℕ) (i : ℕ) (c : Cut) → soughtIn i (verdict s) ≡ Is c → GoodCut s c
-good-cut s = sought-good ownChecks kinds exact s (GoodCut s) (good-accepted s)
+good-cut s = sought-good baseChecks baseFormat exact s (GoodCut s) (good-accepted s)
 
 pub any-cut : (s : List ℕ) (i : ℕ) (c : Cut) → soughtIn i (anyDataVerdict s) ≡ Is c → AnyDataCut s c
-any-cut s = sought-good anyDataChecks anyDataKinds any-exact s (AnyDataCut s) (any-cut-of s)
+any-cut s = sought-good anyDataChecks anyDataFormat any-exact s (AnyDataCut s) (any-cut-of s)
 
 pub dual-good-cut : (s : List ℕ) (i : ℕ) (c : Cut) → soughtIn i (dualVerdict s) ≡ Is c → DualGoodCut s c
-dual-good-cut s = sought-good dualChecks dualKinds dual-exact s (DualGoodCut s) (dual-good-accepted s)
+dual-good-cut s = sought-good dualChecks dualFormat dual-exact s (DualGoodCut s) (dual-good-accepted s)
 
 -- ── a call on the whole file, by what the walk answers ──
 

@@ -6,7 +6,7 @@ use lib.Dec.{ltb}
 use lib.ListN.{length, getD}
 use Rattle.sections.specs.Refusal.{refuse}
 use Rattle.sections.specs.Verdict.{Verdict, accepted, refused, noCut}
-use Rattle.layout.specs.Verdict.{verdict, anyDataVerdict}
+use Rattle.base_format.specs.Verdict.{verdict, anyDataVerdict}
 use Rattle.sections.specs.declared.Cut.{Cut}
 use Rattle.sections.specs.declared.Refusal.{Refusal}
 use Rattle.sections.specs.declared.Why.the-variants.{Argument}

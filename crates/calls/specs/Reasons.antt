@@ -3,9 +3,9 @@ use Prim.Native.Nat.{ℕ, _≤_, _<_}
 use mathlib.Core.List.{List}
 use lib.ListN.{length, getD}
 use Rattle.sections.specs.Refusal.{refuse}
-use Rattle.sections.specs.Checks.{Own}
+use Rattle.sections.specs.Checks.{FormatChecks}
 use Rattle.sections.specs.Verdict.{noCut}
-use Rattle.sections.specs.Accepted.{Kinds, AcceptedBy}
+use Rattle.sections.specs.Accepted.{Format, AcceptedBy}
 use Rattle.sections.specs.Refused.{RefusedBy}
 use Rattle.sections.specs.declared.Cut.{Cut}
 use Rattle.sections.specs.declared.Refusal.{Refusal}
@@ -24,7 +24,7 @@ Asking Wrong c = CutReason c (Wrong c) ⊥ ⊥
 abbrev pub Filling : (Cut → Type 0) → (Cut → Type 0) → Cut → Refusal → Type 0
 Filling Wrong Short c = CutReason c (Wrong c) (Short c) ⊥
 
-pub data Reason (own : Own) (kinds : Kinds) (s : List ℕ) (i : ℕ) (OnCut : Cut → Refusal → Type 0) : Refusal → Type 0 where
-  by-file : {r : Refusal} → RefusedBy own s r → Reason own kinds s i OnCut r
-  no-cut : {cs : List Cut} → AcceptedBy kinds s cs → length cs ≤ i → Reason own kinds s i OnCut (refuse Argument 0)
-  on-cut : {cs : List Cut} {r : Refusal} → AcceptedBy kinds s cs → i < length cs → OnCut (getD cs i noCut) r → Reason own kinds s i OnCut r
+pub data Reason (own : FormatChecks) (baseFormat : Format) (s : List ℕ) (i : ℕ) (OnCut : Cut → Refusal → Type 0) : Refusal → Type 0 where
+  by-file : {r : Refusal} → RefusedBy own s r → Reason own baseFormat s i OnCut r
+  no-cut : {cs : List Cut} → AcceptedBy baseFormat s cs → length cs ≤ i → Reason own baseFormat s i OnCut (refuse Argument 0)
+  on-cut : {cs : List Cut} {r : Refusal} → AcceptedBy baseFormat s cs → i < length cs → OnCut (getD cs i noCut) r → Reason own baseFormat s i OnCut r

@@ -5,8 +5,8 @@ use sections::Refusal;
 use sections::Why;
 use walks::Walked;
 ghost use mathlib.Core.Path.{_≡_};
-ghost use Rattle.layout.specs.Verdict.{verdict, anyDataVerdict};
-ghost use Rattle.duallayout.specs.Verdict.{verdict as dualVerdict};
+ghost use Rattle.base_format.specs.Verdict.{verdict, anyDataVerdict};
+ghost use Rattle.dual_format.specs.Verdict.{verdict as dualVerdict};
 ghost use Rattle.calls.specs.Cuts.{soughtIn, soughtBy};
 
 // The cut that was asked for, of an accepted file; or the refusal.

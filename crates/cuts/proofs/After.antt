@@ -9,12 +9,12 @@ use lib.ListN.{length, getD}
 use Rattle.rules.specs.Fields.{numberAt}
 use Rattle.sections.specs.Verdict.{endOf, noCut}
 use Rattle.sections.specs.Accepted.{Body, Cuts, none, own, shared}
-use Rattle.layout.specs.Accepted.{kinds, Accepted}
+use Rattle.base_format.specs.Accepted.{baseFormat, Accepted}
 use Rattle.sections.specs.declared.Cut.{Cut}
 use Rattle.cuts.specs.After.{endAt, bodyAt, cutAfter}
 
 module _ (s : List ℕ) (end first : ℕ) where
-  body-is : (s3 at : ℕ) (c : Cut) (next : ℕ) → Body kinds s end first s3 at c next → c ≡ bodyAt s s3 at
+  body-is : (s3 at : ℕ) (c : Cut) (next : ℕ) → Body baseFormat s end first s3 at c next → c ≡ bodyAt s s3 at
   body-is s3 at c next b =
       let e5 : b .s5 ≡ endAt s at = sym (b .four .up-to) in
       let e6 : b .s6 ≡ endAt s (b .s5) = sym (b .five .up-to) in
@@ -22,14 +22,14 @@ module _ (s : List ℕ) (end first : ℕ) where
       let e : b .s7 ≡ endAt s (endAt s (endAt s at)) = e7 ∙ ap (endAt s) (e6 ∙ ap (endAt s) e5) in
       b .is ∙ (λ i. record { section3 = s3; section4 = at; section5 = e5 i; section7 = e i })
 
-  body-end : (s3 at : ℕ) (c : Cut) (next : ℕ) → Body kinds s end first s3 at c next → endAt s (c .section7) ≡ next
+  body-end : (s3 at : ℕ) (c : Cut) (next : ℕ) → Body baseFormat s end first s3 at c next → endAt s (c .section7) ≡ next
   body-end s3 at c next b = ap (λ (x : Cut). endAt s (x .section7)) (b .is) ∙ b .seven .up-to
 
-  body-three : (s3 at : ℕ) (c : Cut) (next : ℕ) → Body kinds s end first s3 at c next → c .section3 ≡ s3
+  body-three : (s3 at : ℕ) (c : Cut) (next : ℕ) → Body baseFormat s end first s3 at c next → c .section3 ≡ s3
   body-three s3 at c next b = ap (λ (x : Cut). x .section3) (b .is)
 
   -- the cut after c, where the cuts that follow begin at the place past c
-  after-one : (s3 at : ℕ) (c d : Cut) (ds : List Cut) → c .section3 ≡ s3 → endAt s (c .section7) ≡ at → Cuts kinds s end first s3 at (d ∷ ds) → d ≡ cutAfter s c
+  after-one : (s3 at : ℕ) (c d : Cut) (ds : List Cut) → c .section3 ≡ s3 → endAt s (c .section7) ≡ at → Cuts baseFormat s end first s3 at (d ∷ ds) → d ≡ cutAfter s c
   unfolding cutAfter
   after-one s3 at c d ds e3 e (own {b = b} {next = next} three is body r) =
       let n : numberAt s (endAt s (c .section7)) ≡ 3 = ap (numberAt s) e ∙ three .number in
@@ -40,7 +40,7 @@ module _ (s : List ℕ) (end first : ℕ) where
       let ne : numberAt s (endAt s (c .section7)) ≡ 3 → ⊥ = λ z. omega arith in
       rw (ne-eqb _ _ ne) (body-is s3 at d next body ∙ (λ i. bodyAt s (sym e3 i) (sym e i)))
 
-  chain : (s3 at : ℕ) (c : Cut) (cs : List Cut) → c .section3 ≡ s3 → endAt s (c .section7) ≡ at → Cuts kinds s end first s3 at cs
+  chain : (s3 at : ℕ) (c : Cut) (cs : List Cut) → c .section3 ≡ s3 → endAt s (c .section7) ≡ at → Cuts baseFormat s end first s3 at cs
       → (i : ℕ) → suc i < length (c ∷ cs) → getD (c ∷ cs) (suc i) noCut ≡ cutAfter s (getD (c ∷ cs) i noCut)
   chain s3 at c cs e3 e none i lt = absurd (not-suc-le-zero (le-of-suc-le-suc lt))
   chain s3 at c cs e3 e (own {b = b} {next = next} {c = d} {cs = ds} three is body r) zero lt =

@@ -15,7 +15,7 @@ use Rattle.values.specs.Row.{Bins}
 use Rattle.values.specs.declared.Product.{Product}
 use Rattle.sections.specs.Parts.{binsIn}
 use Rattle.sections.specs.declared.Cut.{Cut}
-use Rattle.layout.specs.Parts.{dataAt, greatestIn}
+use Rattle.base_format.specs.Parts.{dataAt, greatestIn}
 use Rattle.cuts.specs.Records.{usableIn, rayFrom}
 
 module _ (s : List ℕ) (c : Cut) (v nb : ℕ) (xs : List ℕ) (ev : v ≡ greatestIn s c) (eb : nb ≡ binsIn s c) (ex : xs ≡ dataAt s (c .section7)) (rec : RayRecord) where

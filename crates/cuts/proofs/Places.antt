@@ -15,8 +15,8 @@ use Rattle.values.specs.Row.{Bins}
 use Rattle.values.specs.declared.Product.{Product}
 use Rattle.values.proofs.Listed.{count-le}
 use Rattle.sections.specs.Parts.{binsIn, raysIn}
-use Rattle.layout.specs.Parts.{dataAt, productIn, greatestIn, levelsIn, levelIn}
-use Rattle.layout.specs.Good.{AnyDataCut, GoodCut}
+use Rattle.base_format.specs.Parts.{dataAt, productIn, greatestIn, levelsIn, levelIn}
+use Rattle.base_format.specs.Good.{AnyDataCut, GoodCut}
 use Rattle.sections.specs.declared.Cut.{Cut}
 use Rattle.stretches.specs.Call.{Part, scaleOf, listed, rightPoint}
 use Rattle.cuts.specs.Bins.{binsFrom, rayIn, stretchesIn}

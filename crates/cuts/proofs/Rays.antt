@@ -6,8 +6,8 @@ use native.Mathlib.Omega.{arith}
 use lib.ListN.{length, getD, drop, length-drop}
 use lib.Seq.{length-take-le, getD-take, getD-drop}
 use Rattle.sections.specs.Parts.{binsIn, raysIn}
-use Rattle.layout.specs.Parts.{levelsIn, levelIn}
-use Rattle.layout.specs.Good.{GoodCut}
+use Rattle.base_format.specs.Parts.{levelsIn, levelIn}
+use Rattle.base_format.specs.Good.{GoodCut}
 use Rattle.sections.specs.declared.Cut.{Cut}
 use Rattle.cuts.specs.Bins.{binsFrom, rayIn}
 use Rattle.cuts.proofs.Places.{all-bins, ray-inside}

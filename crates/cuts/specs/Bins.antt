@@ -4,7 +4,7 @@ use mathlib.Core.List.{List}
 use lib.ListN.{take, drop}
 use lib.IntN.{ℤ}
 use Rattle.sections.specs.Parts.{binsIn, raysIn}
-use Rattle.layout.specs.Parts.{dataAt, productIn, greatestIn, levelsIn}
+use Rattle.base_format.specs.Parts.{dataAt, productIn, greatestIn, levelsIn}
 use Rattle.sections.specs.declared.Cut.{Cut}
 use Rattle.stretches.specs.Stretch.{Entry}
 use Rattle.stretches.specs.Call.{scaleOf, listed}

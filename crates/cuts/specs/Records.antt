@@ -6,7 +6,7 @@ use Rattle.index.specs.declared.RayRecord.{RayRecord}
 use Rattle.index.specs.Index.{usable, fromRecord, records}
 use Rattle.sections.specs.Parts.{binsIn, raysIn}
 use Rattle.sections.specs.declared.Cut.{Cut}
-use Rattle.layout.specs.Parts.{dataAt, greatestIn}
+use Rattle.base_format.specs.Parts.{dataAt, greatestIn}
 
 unfoldable pub recordsIn : List ℕ → Cut → List RayRecord
 recordsIn s c = records (raysIn s c) (binsIn s c) (greatestIn s c) (dataAt s (c .section7)) 0

@@ -1,7 +1,7 @@
 // One cut of an accepted file, read by the places of its sections: Nb, Nr, V, its data; a ray's levels, a bin's level, its stretches. Every function that
-// reads data asks that the cut is good (specs/Good.antt of `layout`), which the file's checks have shown, and tests nothing again; those that go by a record ask it but for
+// reads data asks that the cut is good (specs/Good.antt of `base_format`), which the file's checks have shown, and tests nothing again; those that go by a record ask it but for
 // the data. Below it stand
-// `sections`, `layout`, `runs`, `index`, `values` and `stretches`; above it `polar` and `records`, whose calls make the checks, and `lister`, which goes over all cuts of a file.
+// `sections`, `base_format`, `runs`, `index`, `values` and `stretches`; above it `polar` and `records`, whose calls make the checks, and `lister`, which goes over all cuts of a file.
 use index::RayRecord;
 use sections::Cut;
 use stretches::Listing;
@@ -15,8 +15,8 @@ ghost use Rattle.index.specs.Index.{usable, fromRecord};
 ghost use Rattle.values.specs.Published.{levelCount};
 ghost use Rattle.values.specs.Ray.{marksOf, valuesOf};
 ghost use Rattle.sections.specs.Parts.{binsIn, raysIn};
-ghost use Rattle.layout.specs.Parts.{dataAt, productIn, greatestIn, levelIn};
-ghost use Rattle.layout.specs.Good.{AnyDataCut, GoodCut};
+ghost use Rattle.base_format.specs.Parts.{dataAt, productIn, greatestIn, levelIn};
+ghost use Rattle.base_format.specs.Good.{AnyDataCut, GoodCut};
 ghost use Rattle.stretches.specs.Call.{answerOf, outOf, rightPoint};
 ghost use Rattle.cuts.specs.Bins.{binsFrom, rayIn, stretchesIn};
 ghost use Rattle.cuts.specs.Records.{usableIn, rayFrom};
@@ -71,7 +71,7 @@ pub fn readings_into(file: &[u8], c: Cut, ray: usize, marks: &mut [u8], values: 
     let nb = sections::bins_in(file, c);
     let from = ray * nb;
     let v = greatest_in(file, c);
-    let product = layout::product_in(file, c);
+    let product = base_format::product_in(file, c);
     values::readings_into(product, data_in(file, c), v, from, from + nb, marks, values)
 }
 
@@ -135,7 +135,7 @@ pub fn readings_from(
 {
     let nb = sections::bins_in(file, c);
     let v = greatest_in(file, c);
-    let product = layout::product_in(file, c);
+    let product = base_format::product_in(file, c);
     readings_by(product, data_in(file, c), v, nb, rec, marks, values)
 }
 
@@ -159,7 +159,7 @@ pub fn list_into(file: &[u8], c: Cut, t: i32, ray: usize, bin: usize, words: &mu
 {
     let nr = sections::rays_in(file, c);
     let nb = sections::bins_in(file, c);
-    let product = layout::product_in(file, c);
+    let product = base_format::product_in(file, c);
     let v = greatest_in(file, c);
     stretches::list_from(data_in(file, c), v, product, t, nb, nr, ray, bin, words)
 }

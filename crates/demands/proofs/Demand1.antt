@@ -16,11 +16,11 @@ use Rattle.sections.specs.Parts.{binsIn, raysIn}
 use Rattle.sections.specs.declared.Cut.{Cut}
 use Rattle.sections.specs.declared.Refusal.{Refusal}
 use Rattle.sections.specs.declared.Why.the-variants.{Argument, Room}
-use Rattle.layout.specs.Parts.{productIn, levelIn}
-use Rattle.layout.specs.Checks.{ownChecks}
-use Rattle.layout.specs.Verdict.{RefusedBy}
-use Rattle.layout.specs.Accepted.{kinds}
-use Rattle.layout.proofs.Exact.{exact}
+use Rattle.base_format.specs.Parts.{productIn, levelIn}
+use Rattle.base_format.specs.Checks.{baseChecks}
+use Rattle.base_format.specs.Verdict.{RefusedBy}
+use Rattle.base_format.specs.Accepted.{baseFormat}
+use Rattle.base_format.proofs.Exact.{exact}
 use Rattle.values.specs.Reading.{readingOf}
 use Rattle.values.specs.declared.Reading.{Reading}
 use Rattle.values.specs.declared.Reading.the-variants as N
@@ -51,21 +51,21 @@ use Rattle.polar.proofs.Answering.{ray-none, ray-short, bin-ray-none, bin-none,
 pub open-refused : (s : List ℕ) (r : Refusal) → OpenPromise s (O.Refused r) → RefusedBy s r
 unfolding openAnswer
 open-refused s r p =
-    by-file-verdict ownChecks kinds exact s O.Refused (λ n c. O.File (summaryOf s n c)) (O.Refused r) (RefusedBy s r)
+    by-file-verdict baseChecks baseFormat exact s O.Refused (λ n c. O.File (summaryOf s n c)) (O.Refused r) (RefusedBy s r)
     (λ q k e. let same : q ≡ r = cc e in subst (RefusedBy s) same k)
     (λ cs k e. let z : _≡_ {A = ℕ} 0 1 = cc e in absurd (omega arith))
     (sym (p .answer))
 
 pub refused-open : (s : List ℕ) (r : Refusal) (a : Opened) → RefusedBy s r → OpenPromise s a → a ≡ O.Refused r
 unfolding openAnswer
-refused-open s r a h p = p .answer ∙ file-refused ownChecks kinds exact s _ _ r h
+refused-open s r a h p = p .answer ∙ file-refused baseChecks baseFormat exact s _ _ r h
 
 -- ── cut ──
 
 pub cut-refused : (s : List ℕ) (i : ℕ) (q : Refusal) → CutPromise s i (C.Refused q) → CutReasons s i q
 unfolding cutAnswer
 cut-refused s i q p =
-    reason ownChecks kinds exact s C.Refused (λ c. C.Cut (infoOf s c)) i (Asking (λ c. ⊥)) q (λ r e. cc e)
+    reason baseChecks baseFormat exact s C.Refused (λ c. C.Cut (infoOf s c)) i (Asking (λ c. ⊥)) q (λ r e. cc e)
     (λ c e. let z : _≡_ {A = ℕ} 0 1 = cc e in absurd (omega arith))
     (sym (p .answer))
 
@@ -76,14 +76,14 @@ no-fault s c r (by-record w x y) = absurd y
 
 pub refused-cut : (s : List ℕ) (i : ℕ) (q : Refusal) (a : CutAnswer) → CutReasons s i q → CutPromise s i a → a ≡ C.Refused q
 unfolding cutAnswer
-refused-cut s i q a h p = p .answer ∙ by-reason ownChecks kinds exact s C.Refused (λ c. C.Cut (infoOf s c)) i (Asking (λ c. ⊥)) q (no-fault s) h
+refused-cut s i q a h p = p .answer ∙ by-reason baseChecks baseFormat exact s C.Refused (λ c. C.Cut (infoOf s c)) i (Asking (λ c. ⊥)) q (no-fault s) h
 
 -- ── the ray calls ──
 
 ray-reason : (s : List ℕ) (i ray room : ℕ) (q : Refusal) → R.Refused q ≡ rayAnswer s i ray room → RayReasons s i ray room q
 unfolding rayAnswer rayOn
 ray-reason s i ray room q h =
-    reason ownChecks kinds exact s R.Refused (rayOn s ray room) i (RayFault s ray room) q (λ r e. cc e)
+    reason baseChecks baseFormat exact s R.Refused (rayOn s ray room) i (RayFault s ray room) q (λ r e. cc e)
     (λ c e. split c (ltb ray (raysIn s c)) (ltb room (binsIn s c)) refl refl e)
     (sym h)
   where
@@ -103,7 +103,7 @@ ray-fault s ray room c r (by-record right fits w) = absurd w
 
 reason-ray : (s : List ℕ) (i ray room : ℕ) (q : Refusal) → RayReasons s i ray room q → rayAnswer s i ray room ≡ R.Refused q
 unfolding rayAnswer
-reason-ray s i ray room q h = by-reason ownChecks kinds exact s R.Refused (rayOn s ray room) i (RayFault s ray room) q (ray-fault s ray room) h
+reason-ray s i ray room q h = by-reason baseChecks baseFormat exact s R.Refused (rayOn s ray room) i (RayFault s ray room) q (ray-fault s ray room) h
 
 module _ (s : List ℕ) (i ray : ℕ) (q : Refusal) where
   pub levels-refused : (out out′ : List ℕ) → LevelsPromise s i ray out (R.Refused q) out′ → RayReasons s i ray (length out) q × (out′ ≡ out)
@@ -133,7 +133,7 @@ reading-answers (N.Number n) q h = let z : _≡_ {A = ℕ} 0 1 = cc in omega ari
 pub bin-refused : (s : List ℕ) (i ray bin : ℕ) (q : Refusal) → BinPromise s i ray bin (B.Refused q) → BinReasons s i ray bin q
 unfolding binAnswer binOn
 bin-refused s i ray bin q p =
-    reason ownChecks kinds exact s B.Refused (binOn s ray bin) i (BinFault s ray bin) q (λ r e. cc e)
+    reason baseChecks baseFormat exact s B.Refused (binOn s ray bin) i (BinFault s ray bin) q (λ r e. cc e)
     (λ c e. split c (ltb ray (raysIn s c)) (ltb bin (binsIn s c)) refl refl e)
     (sym (p .answer))
   where
@@ -151,7 +151,7 @@ bin-fault s ray bin c r (by-record right fits x) = absurd x
 
 pub refused-bin : (s : List ℕ) (i ray bin : ℕ) (q : Refusal) (a : BinAnswer) → BinReasons s i ray bin q → BinPromise s i ray bin a → a ≡ B.Refused q
 unfolding binAnswer
-refused-bin s i ray bin q a h p = p .answer ∙ by-reason ownChecks kinds exact s B.Refused (binOn s ray bin) i (BinFault s ray bin) q (bin-fault s ray bin) h
+refused-bin s i ray bin q a h p = p .answer ∙ by-reason baseChecks baseFormat exact s B.Refused (binOn s ray bin) i (BinFault s ray bin) q (bin-fault s ray bin) h
 
 -- ── stretches ──
 
@@ -159,7 +159,7 @@ module _ (s : List ℕ) (i : ℕ) (t : ℤ) (ray bin : ℕ) (words words′ : Li
   pub stretches-refused : StretchesPromise s i t ray bin words (S.Refused q) words′ → ListReasons s i t ray bin (length words) q × (words′ ≡ words)
   unfolding stretchAnswer stretchesOn wordsAfter
   stretches-refused p = (
-    reason ownChecks kinds exact s S.Refused (stretchesOn s t ray bin (length words)) i (ListFault s t ray bin (length words)) q (λ r e. cc e)
+    reason baseChecks baseFormat exact s S.Refused (stretchesOn s t ray bin (length words)) i (ListFault s t ray bin (length words)) q (λ r e. cc e)
         (λ c e. split c (rightT t) (rightPoint (binsIn s c) (raysIn s c) ray bin) (ltb (length words) perEntry) refl refl refl e)
         (sym (p .answer)),
     p .after,
@@ -190,4 +190,4 @@ pub refused-stretches : (s : List ℕ) (i : ℕ) (t : ℤ) (ray bin : ℕ) (word
     → StretchesPromise s i t ray bin words a words′ → a ≡ S.Refused q
 unfolding stretchAnswer
 refused-stretches s i t ray bin words words′ q a h p =
-    p .answer ∙ by-reason ownChecks kinds exact s S.Refused (stretchesOn s t ray bin (length words)) i (ListFault s t ray bin (length words)) q (list-fault s t ray bin (length words)) h
+    p .answer ∙ by-reason baseChecks baseFormat exact s S.Refused (stretchesOn s t ray bin (length words)) i (ListFault s t ray bin (length words)) q (list-fault s t ray bin (length words)) h

@@ -26,16 +26,16 @@ use Rattle.values.specs.Ray.{marksOf, valuesOf}
 use Rattle.values.proofs.Readings.{no-number, its-number, published-near}
 use Rattle.values.proofs.Over.{mark-at, value-at}
 use Rattle.sections.specs.Parts.{binsIn, raysIn}
-use Rattle.layout.specs.Parts.{dataAt, productIn, greatestIn, levelsIn, levelIn}
+use Rattle.base_format.specs.Parts.{dataAt, productIn, greatestIn, levelsIn, levelIn}
 use Rattle.sections.specs.Verdict.{accepted, noCut}
-use Rattle.layout.specs.Verdict.{verdict}
-use Rattle.layout.specs.Checks.{ownChecks}
-use Rattle.layout.specs.Accepted.{kinds, Accepted}
-use Rattle.layout.specs.Good.{GoodCut}
+use Rattle.base_format.specs.Verdict.{verdict}
+use Rattle.base_format.specs.Checks.{baseChecks}
+use Rattle.base_format.specs.Accepted.{baseFormat, Accepted}
+use Rattle.base_format.specs.Good.{GoodCut}
 use Rattle.sections.specs.declared.Cut.{Cut}
 use Rattle.sections.specs.declared.Refusal.{Refusal}
-use Rattle.layout.proofs.Exact.{exact}
-use Rattle.layout.proofs.GoodCuts.{good-accepted}
+use Rattle.base_format.proofs.Exact.{exact}
+use Rattle.base_format.proofs.GoodCuts.{good-accepted}
 use Rattle.cuts.specs.Bins.{rayIn}
 use Rattle.cuts.proofs.Places.{data-opens, all-bins, level-few}
 use Rattle.cuts.proofs.Rays.{ray-length, ray-bin}
@@ -59,7 +59,7 @@ use Rattle.demands.proofs.Lent.{front-at, front-past, over-beyond}
 
 pub accepted-open : (s : List ℕ) (cs : List Cut) (r : Opened) → Accepted s cs → OpenPromise s r → r ≡ O.File (summaryOf s (length cs) (getD cs 0 noCut))
 unfolding openAnswer
-accepted-open s cs r a p = p .answer ∙ file-accepted ownChecks kinds exact s _ _ cs a
+accepted-open s cs r a p = p .answer ∙ file-accepted baseChecks baseFormat exact s _ _ cs a
 
 pub record AcceptedAs (s : List ℕ) (m : Summary) : Type 0 where
   pub cs : List Cut
@@ -69,7 +69,7 @@ pub record AcceptedAs (s : List ℕ) (m : Summary) : Type 0 where
 pub open-accepted : (s : List ℕ) (m : Summary) → OpenPromise s (O.File m) → AcceptedAs s m
 unfolding openAnswer
 open-accepted s m p =
-    by-file-verdict ownChecks kinds exact s O.Refused (λ n c. O.File (summaryOf s n c)) (O.File m) (AcceptedAs s m)
+    by-file-verdict baseChecks baseFormat exact s O.Refused (λ n c. O.File (summaryOf s n c)) (O.File m) (AcceptedAs s m)
     (λ r k e. let z : _≡_ {A = ℕ} 0 1 = cc e in absurd (omega arith))
     (λ cs k e. record { cs = cs; accepts = k; summary = cc e })
     (sym (p .answer))
@@ -84,7 +84,7 @@ module _ (s : List ℕ) (cs : List Cut) (a : Accepted s cs) (i : ℕ) (lt : i < 
   good = good-accepted s cs a i lt
 
   pub on-accepted : {A : Type 0} (bad : Refusal → A) (some : Cut → A) → onCut bad some i (verdict s) ≡ some cut
-  on-accepted bad some = cut-accepted ownChecks kinds exact s bad some i cs a lt
+  on-accepted bad some = cut-accepted baseChecks baseFormat exact s bad some i cs a lt
 
   pub cut-is : cutAt i (verdict s) ≡ cut
   unfolding cutAt

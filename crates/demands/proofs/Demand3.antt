@@ -1,5 +1,5 @@
 -- DEMAND 3. For an accepted file, any cut of it and any permitted threshold, the stretch list holds every longest stretch of one kind on each ray, each
--- exactly once, by ray and then by first bin, and nothing else; the kinds are those of demand 2's bins. Fetched in portions from the first bin, with
+-- exactly once, by ray and then by first bin, and nothing else; the baseFormat are those of demand 2's bins. Fetched in portions from the first bin, with
 -- room for an entry each time and each next point handed back, the portions joined are that list, and the fetching ends.
 -- The idea: a call hands over the front of the list from its point, and the list from the next point is what it left.
 use Prim.Native.Nat.{ℕ, suc, _+_, _-_, _*_, _/_, _≤_, _<_}
@@ -14,11 +14,11 @@ use lib.Seq.{take-at}
 use lib.IntN.{ℤ}
 use Rattle.runs.specs.Lent.{front}
 use Rattle.sections.specs.Parts.{binsIn, raysIn}
-use Rattle.layout.specs.Parts.{dataAt, productIn, greatestIn, levelsIn, levelIn}
+use Rattle.base_format.specs.Parts.{dataAt, productIn, greatestIn, levelsIn, levelIn}
 use Rattle.sections.specs.Verdict.{noCut}
-use Rattle.layout.specs.Accepted.{Accepted}
+use Rattle.base_format.specs.Accepted.{Accepted}
 use Rattle.sections.specs.declared.Cut.{Cut}
-use Rattle.layout.proofs.GoodCuts.{good-accepted}
+use Rattle.base_format.proofs.GoodCuts.{good-accepted}
 use Rattle.stretches.specs.Stretch.{Entry, perEntry, wordsOf}
 use Rattle.stretches.specs.Meaning.{IsStretch, IsList, Wanted}
 use Rattle.stretches.specs.Call.{scaleOf, listed, fitting, answerOf, outOf, rightT, rightPoint}

@@ -20,11 +20,11 @@ use Rattle.sections.specs.declared.Cut.{Cut}
 use Rattle.sections.specs.Refusal.{refuse}
 use Rattle.sections.specs.declared.Refusal.{Refusal}
 use Rattle.sections.specs.declared.Why.the-variants.{Argument}
-use Rattle.duallayout.specs.Checks.{ownChecks}
-use Rattle.duallayout.specs.Accepted.{kinds, Accepted}
-use Rattle.duallayout.specs.Verdict.{verdict, RefusedBy}
-use Rattle.duallayout.specs.Parts.{referenceIn, binaryIn, decimalIn, widthIn, cellIn, toldIn}
-use Rattle.duallayout.proofs.Exact.{exact}
+use Rattle.dual_format.specs.Checks.{dualChecks}
+use Rattle.dual_format.specs.Accepted.{dualFormat, Accepted}
+use Rattle.dual_format.specs.Verdict.{verdict, RefusedBy}
+use Rattle.dual_format.specs.Parts.{referenceIn, binaryIn, decimalIn, widthIn, cellIn, toldIn}
+use Rattle.dual_format.proofs.Exact.{exact}
 use Rattle.calls.specs.Cuts.{cutAt}
 use Rattle.calls.specs.Reasons.{Reason, Asking, by-argument, by-room, by-record}
 use Rattle.calls.specs.declared.BinAnswer.{BinAnswer}
@@ -43,18 +43,18 @@ use Rattle.dualpol.specs.declared.DualCut.the-variants as C
 pub open-refused : (s : List ℕ) (r : Refusal) → OpenPromise s (O.Refused r) → RefusedBy s r
 unfolding openAnswer
 open-refused s r p =
-    by-file-verdict ownChecks kinds exact s O.Refused (λ n c. O.File (summaryOf s n c)) (O.Refused r) (RefusedBy s r)
+    by-file-verdict dualChecks dualFormat exact s O.Refused (λ n c. O.File (summaryOf s n c)) (O.Refused r) (RefusedBy s r)
     (λ q k e. let same : q ≡ r = cc e in subst (RefusedBy s) same k)
     (λ cs k e. let z : _≡_ {A = ℕ} 0 1 = cc e in absurd (omega arith))
     (sym p)
 
 pub refused-open : (s : List ℕ) (r : Refusal) (a : DualOpened) → RefusedBy s r → OpenPromise s a → a ≡ O.Refused r
 unfolding openAnswer
-refused-open s r a h p = p ∙ file-refused ownChecks kinds exact s _ _ r h
+refused-open s r a h p = p ∙ file-refused dualChecks dualFormat exact s _ _ r h
 
 pub accepted-open : (s : List ℕ) (cs : List Cut) (a : DualOpened) → Accepted s cs → OpenPromise s a → a ≡ O.File (summaryOf s (length cs) (getD cs 0 noCut))
 unfolding openAnswer
-accepted-open s cs a h p = p ∙ file-accepted ownChecks kinds exact s _ _ cs h
+accepted-open s cs a h p = p ∙ file-accepted dualChecks dualFormat exact s _ _ cs h
 
 pub record AcceptedAs (s : List ℕ) (m : DualSummary) : Type 0 where
   pub cs : List Cut
@@ -64,7 +64,7 @@ pub record AcceptedAs (s : List ℕ) (m : DualSummary) : Type 0 where
 pub open-accepted : (s : List ℕ) (m : DualSummary) → OpenPromise s (O.File m) → AcceptedAs s m
 unfolding openAnswer
 open-accepted s m p =
-    by-file-verdict ownChecks kinds exact s O.Refused (λ n c. O.File (summaryOf s n c)) (O.File m) (AcceptedAs s m)
+    by-file-verdict dualChecks dualFormat exact s O.Refused (λ n c. O.File (summaryOf s n c)) (O.File m) (AcceptedAs s m)
     (λ r k e. let z : _≡_ {A = ℕ} 0 1 = cc e in absurd (omega arith))
     (λ cs k e. record { cs = cs; accepts = k; summary = cc e })
     (sym p)
@@ -72,12 +72,12 @@ open-accepted s m p =
 -- ── why the others refuse, both ways: the file's own, then 10 ──
 
 abbrev pub CutReasons : List ℕ → ℕ → Refusal → Type 0
-CutReasons s i = Reason ownChecks kinds s i (Asking (λ c. ⊥))
+CutReasons s i = Reason dualChecks dualFormat s i (Asking (λ c. ⊥))
 
 pub cut-refused : (s : List ℕ) (i : ℕ) (q : Refusal) → CutPromise s i (C.Refused q) → CutReasons s i q
 unfolding cutAnswer
 cut-refused s i q p =
-    reason ownChecks kinds exact s C.Refused (λ c. C.Cut (gridAt s (c .section3))) i (Asking (λ c. ⊥)) q (λ r e. cc e)
+    reason dualChecks dualFormat exact s C.Refused (λ c. C.Cut (gridAt s (c .section3))) i (Asking (λ c. ⊥)) q (λ r e. cc e)
     (λ c e. let z : _≡_ {A = ℕ} 0 1 = cc e in absurd (omega arith))
     (sym p)
 
@@ -88,13 +88,13 @@ no-fault some Refused c r (by-record w x y) = absurd y
 
 pub refused-cut : (s : List ℕ) (i : ℕ) (q : Refusal) (a : DualCut) → CutReasons s i q → CutPromise s i a → a ≡ C.Refused q
 unfolding cutAnswer
-refused-cut s i q a h p = p ∙ by-reason ownChecks kinds exact s C.Refused _ i (Asking (λ c. ⊥)) q (no-fault _ C.Refused) h
+refused-cut s i q a h p = p ∙ by-reason dualChecks dualFormat exact s C.Refused _ i (Asking (λ c. ⊥)) q (no-fault _ C.Refused) h
 
 abbrev pub BinWrong : List ℕ → ℕ → ℕ → Cut → Type 0
 BinWrong s ray bin c = (raysIn s c ≤ ray) ⊎ (binsIn s c ≤ bin)
 
 abbrev pub BinReasons : List ℕ → ℕ → ℕ → ℕ → Refusal → Type 0
-BinReasons s i ray bin = Reason ownChecks kinds s i (Asking (BinWrong s ray bin))
+BinReasons s i ray bin = Reason dualChecks dualFormat s i (Asking (BinWrong s ray bin))
 
 -- a cell is no refusal
 cell-answers : (x : Cell) (q : Refusal) → binOf x ≡ B.Refused q → ⊥
@@ -105,7 +105,7 @@ cell-answers (L.Value y) q h = let z : _≡_ {A = ℕ} 0 1 = cc in omega arith
 pub bin-refused : (s : List ℕ) (i ray bin : ℕ) (q : Refusal) → BinPromise s i ray bin (B.Refused q) → BinReasons s i ray bin q
 unfolding binAnswer binOn
 bin-refused s i ray bin q p =
-    reason ownChecks kinds exact s B.Refused (binOn s ray bin) i (Asking (BinWrong s ray bin)) q (λ r e. cc e)
+    reason dualChecks dualFormat exact s B.Refused (binOn s ray bin) i (Asking (BinWrong s ray bin)) q (λ r e. cc e)
     (λ c e. split c (ltb ray (raysIn s c)) (ltb bin (binsIn s c)) refl refl e)
     (sym (p .answer))
   where
@@ -124,7 +124,7 @@ bin-fault s ray bin c r (by-record w x y) = absurd y
 pub refused-bin : (s : List ℕ) (i ray bin : ℕ) (q : Refusal) (a : BinAnswer) → BinReasons s i ray bin q → BinPromise s i ray bin a → a ≡ B.Refused q
 unfolding binAnswer
 refused-bin s i ray bin q a h p =
-    p .answer ∙ by-reason ownChecks kinds exact s B.Refused (binOn s ray bin) i (Asking (BinWrong s ray bin)) q (bin-fault s ray bin) h
+    p .answer ∙ by-reason dualChecks dualFormat exact s B.Refused (binOn s ray bin) i (Asking (BinWrong s ray bin)) q (bin-fault s ray bin) h
 
 -- ── a cut of an accepted file ──
 
@@ -138,12 +138,12 @@ module _ (s : List ℕ) (cs : List Cut) (a : Accepted s cs) (i : ℕ) (lt : i < 
 
   pub cut-answers : (r : DualCut) → CutPromise s i r → r ≡ C.Cut (gridAt s (cut .section3))
   unfolding cutAnswer
-  cut-answers r p = p ∙ cut-accepted ownChecks kinds exact s _ _ i cs a lt
+  cut-answers r p = p ∙ cut-accepted dualChecks dualFormat exact s _ _ i cs a lt
 
   module _ (ray bin : ℕ) (h : ray < raysIn s cut) (k : bin < binsIn s cut) where
     bin-told : (r : BinAnswer) → BinPromise s i ray bin r → r ≡ binOf (toldIn s cut ray bin)
     unfolding binAnswer binOn
-    bin-told r p = p .answer ∙ cut-accepted ownChecks kinds exact s _ _ i cs a lt ∙ rw (lt-ltb ray (raysIn s cut) h, lt-ltb bin (binsIn s cut) k)
+    bin-told r p = p .answer ∙ cut-accepted dualChecks dualFormat exact s _ _ i cs a lt ∙ rw (lt-ltb ray (raysIn s cut) h, lt-ltb bin (binsIn s cut) k)
 
     -- all ones is missing, and nothing else is
     pub missing-answer : (r : BinAnswer) → BinPromise s i ray bin r → cellIn s cut ray bin ≡ 2 ^ widthIn s cut - 1 → r ≡ B.Missing

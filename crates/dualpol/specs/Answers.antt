@@ -10,9 +10,9 @@ use Rattle.scaled.specs.declared.Cell.{Cell}
 use Rattle.scaled.specs.declared.Cell.the-variants as L
 use Rattle.sections.specs.Parts.{binsIn, raysIn, timeOf, gridAt}
 use Rattle.sections.specs.declared.Cut.{Cut}
-use Rattle.duallayout.specs.Fields.{siteAt}
-use Rattle.duallayout.specs.Parts.{referenceIn, binaryIn, decimalIn, cellIn, toldIn}
-use Rattle.duallayout.specs.Verdict.{verdict}
+use Rattle.dual_format.specs.Fields.{siteAt}
+use Rattle.dual_format.specs.Parts.{referenceIn, binaryIn, decimalIn, cellIn, toldIn}
+use Rattle.dual_format.specs.Verdict.{verdict}
 use Rattle.calls.specs.Cuts.{onFile, onCut, cutAt}
 use Rattle.sections.specs.Refusal.{refuse}
 use Rattle.sections.specs.declared.Why.the-variants.{Argument}

@@ -1,5 +1,5 @@
 // THE CALLS of a dual-polarisation file: wish 6. Each is lent the whole file, makes all the file's checks itself, then answers or refuses by 10; none asks
-// anything of its caller. What each answers is one definition of specs/. Below it stand `walks` (the file's checks), `duallayout` (this format's own
+// anything of its caller. What each answers is one definition of specs/. Below it stand `walks` (the file's checks), `dual_format` (this format's own
 // sections), `scaled` (what a cell tells) and `calls`; above it `polar_c` (the calls for C and Rust).
 use calls::BinAnswer;
 use calls::Sought;
@@ -17,8 +17,8 @@ ghost use lib.ListN.{length};
 ghost use Rattle.rules.specs.Rules.{field};
 ghost use Rattle.scaled.specs.Scaled.{RightCell};
 ghost use Rattle.sections.specs.Parts.{binsIn, raysIn};
-ghost use Rattle.duallayout.specs.Parts.{referenceIn, binaryIn, decimalIn, cellIn, toldIn};
-ghost use Rattle.duallayout.specs.Good.{GoodCut};
+ghost use Rattle.dual_format.specs.Parts.{referenceIn, binaryIn, decimalIn, cellIn, toldIn};
+ghost use Rattle.dual_format.specs.Good.{GoodCut};
 ghost use Rattle.dualpol.specs.Answers.{summaryOf, OpenPromise, CutPromise, binOf, binOn, RightIn, BinPromise};
 
 // What is common to all cuts of a file.

@@ -8,11 +8,11 @@ use Rattle.rules.specs.Rules.{rules0, rules1, rules6, rules8}
 use Rattle.rules.specs.Fields.{lengthAt}
 use Rattle.sections.specs.Verdict.{endOf}
 use Rattle.sections.specs.Accepted as A
-use Rattle.sections.specs.Accepted.{Meets, Kinds, Section, Body, AcceptedBy, sectionAt}
+use Rattle.sections.specs.Accepted.{Meets, Format, Section, Body, AcceptedBy, sectionAt}
 use Rattle.sections.specs.declared.Cut.{Cut}
 use Rattle.octets.proofs.Lies.{Lies}
 use Rattle.rules.proofs.Moved.{rules-same}
-use Rattle.files.specs.File.{Parts, partsAt, Whole, Cuts, none, own, shared, File, firstFour, bodyOf}
+use Rattle.files.specs.File.{Parts, partsAt, Whole, Cuts, none, new-3, same-3, File, firstFour, bodyOf}
 use Rattle.files.proofs.Section.{long-of, section-of, octets-of, rest-of}
 use Rattle.files.proofs.Leading.{size-of, past-zero, past-one, past-cuts}
 use Rattle.files.proofs.ToFile.{body-assoc, reach0, reach1, reach8}
@@ -20,7 +20,7 @@ use Rattle.files.proofs.ToFile.{body-assoc, reach0, reach1, reach8}
 pub body-length : (p : Parts) (r : List ℕ) → length (bodyOf p r) ≡ length (p .four) + (length (p .five) + (length (p .six) + (length (p .seven) + length r)))
 body-length p r = simp length-append
 
-module _ (f : Kinds) (s : List ℕ) (end : ℕ) where
+module _ (f : Format) (s : List ℕ) (end : ℕ) where
   record BodyOn (first s3 at : ℕ) (p : Parts) (r : List ℕ) : Type 0 where
     pub c : Cut
     pub next : ℕ
@@ -93,18 +93,18 @@ module _ (f : Kinds) (s : List ℕ) (end : ℕ) where
   -- a cut put before those that follow it
   own-on : {first s3 at b3 : ℕ} {p : Parts} {qs : List Parts} {r : List ℕ} → Section s end 3 at b3 → f .Three (sectionAt s at)
       → (b : BodyOn first at b3 p r) → CutsOn first at (b .next) qs → CutsOn first s3 at (p ∷ qs)
-  own-on here is b c = record { cs = b .c ∷ c .cs; cuts = A.own here is (b .body) (c .cuts); are = (λ i. b .are i ∷ c .are i) }
+  own-on here is b c = record { cs = b .c ∷ c .cs; cuts = A.new-3 here is (b .body) (c .cuts); are = (λ i. b .are i ∷ c .are i) }
 
   shared-on : {first s3 at : ℕ} {p : Parts} {qs : List Parts} {r : List ℕ}
       → (b : BodyOn first s3 at p r) → CutsOn first s3 (b .next) qs → CutsOn first s3 at (p ∷ qs)
-  shared-on b c = record { cs = b .c ∷ c .cs; cuts = A.shared (b .body) (c .cuts); are = (λ i. b .are i ∷ c .are i) }
+  shared-on b c = record { cs = b .c ∷ c .cs; cuts = A.same-3 (b .body) (c .cuts); are = (λ i. b .are i ∷ c .are i) }
 
   cuts-on : (first : ℕ) (of : List ℕ) → sectionAt s first ≡ of → (t : List ℕ) → (s3 at : ℕ) (o3 : List ℕ) (ps : List Parts) (rest : List ℕ)
       → sectionAt s s3 ≡ o3 → Cuts f of o3 ps rest → drop at s ≡ rest ++ t → at + length rest ≡ end → CutsOn first s3 at ps
   cuts-on first of ef t s3 at o3 ps rest e3 none e up =
       let there : end ≡ at = omega arith in
       record { cs = []; cuts = subst (λ (x : ℕ). A.Cuts f s end first s3 x []) there A.none; are = refl }
-  cuts-on first of ef t s3 at o3 ps rest e3 (own {rest = r} {p = p} {ps = qs} w c) e up =
+  cuts-on first of ef t s3 at o3 ps rest e3 (new-3 {rest = r} {p = p} {ps = qs} w c) e up =
       let l3 = length-append (p .three) (bodyOf p r) in
       let size = body-length p r in
       let e' : drop at s ≡ p .three ++ (bodyOf p r ++ t) = e ∙ append-assoc (p .three) (bodyOf p r) t in
@@ -117,7 +117,7 @@ module _ (f : Kinds) (s : List ℕ) (end : ℕ) where
       let rt = length-append r t in
       own-on (section-of s at (bodyOf p r ++ t) e' (w .three) end (omega arith)) (subst (f .Three) (sym o) (w .three-is)) b
       (cuts-on first of ef t at (b .next) (p .three) qs r o c (b .from) (omega arith))
-  cuts-on first of ef t s3 at o3 ps rest e3 (shared {rest = r} {p = p} {ps = qs} w c) e up =
+  cuts-on first of ef t s3 at o3 ps rest e3 (same-3 {rest = r} {p = p} {ps = qs} w c) e up =
       let size = body-length p r in
       let eb : drop at s ≡ bodyOf p (r ++ t) = e ∙ body-assoc p r t in
       let lt = body-length p (r ++ t) in
@@ -127,7 +127,7 @@ module _ (f : Kinds) (s : List ℕ) (end : ℕ) where
       shared-on b (cuts-on first of ef t s3 (b .next) (p .three) qs r e3 c (b .from) (omega arith))
 
 -- cuts under no section 3: the first has one of its own
-record FirstOn (f : Kinds) (first : List ℕ) (ps : List Parts) (rest : List ℕ) : Type 0 where
+record FirstOn (f : Format) (first : List ℕ) (ps : List Parts) (rest : List ℕ) : Type 0 where
   pub p : Parts
   pub later : List Parts
   pub r : List ℕ
@@ -136,23 +136,23 @@ record FirstOn (f : Kinds) (first : List ℕ) (ps : List Parts) (rest : List ℕ
   pub are : ps ≡ p ∷ later
   pub is : rest ≡ p .three ++ bodyOf p r
 
-first-on : (f : Kinds) (first o3 : List ℕ) (ps : List Parts) (rest : List ℕ) → Cuts f first o3 ps rest → o3 ≡ [] → 1 ≤ length ps → FirstOn f first ps rest
+first-on : (f : Format) (first o3 : List ℕ) (ps : List Parts) (rest : List ℕ) → Cuts f first o3 ps rest → o3 ≡ [] → 1 ≤ length ps → FirstOn f first ps rest
 first-on f first o3 ps rest none e some = absurd (omega arith)
-first-on f first o3 ps rest (own {rest = r} {p = p} {ps = qs} w c) e some =
+first-on f first o3 ps rest (new-3 {rest = r} {p = p} {ps = qs} w c) e some =
     record { p = p; later = qs; r = r; whole = w; cuts = c; are = refl; is = refl }
-first-on f first o3 ps rest (shared {rest = r} {p = p} {ps = qs} w c) e some =
+first-on f first o3 ps rest (same-3 {rest = r} {p = p} {ps = qs} w c) e some =
     let five = w .three .some in
     let z : length (p .three) ≡ 0 = ap length e in
     absurd (omega arith)
 
 -- the file is accepted, and these are the octets of its cuts
-pub record AcceptedAs (f : Kinds) (s : List ℕ) (ps : List Parts) : Type 0 where
+pub record AcceptedAs (f : Format) (s : List ℕ) (ps : List Parts) : Type 0 where
   pub cs : List Cut
   pub accepted : AcceptedBy f s cs
   pub are : map (partsAt s) cs ≡ ps
 
 -- the first cut of a file stands past section 1; then the others
-module _ (f : Kinds) (s : List ℕ) (ps : List Parts) (file : File f s ps) (first : FirstOn f (firstFour ps) ps (file .leading .cuts)) where
+module _ (f : Format) (s : List ℕ) (ps : List Parts) (file : File f s ps) (first : FirstOn f (firstFour ps) ps (file .leading .cuts)) where
   abbrev fourAt : ℕ
   fourAt = 37 + length (first .p .three)
 
@@ -251,7 +251,7 @@ module _ (f : Kinds) (s : List ℕ) (ps : List Parts) (file : File f s ps) (firs
       }
 
 -- and back: sections one after the other are an accepted file with just these cuts
-pub of-file : (f : Kinds) (s : List ℕ) (ps : List Parts) → File f s ps → AcceptedAs f s ps
+pub of-file : (f : Format) (s : List ℕ) (ps : List Parts) → File f s ps → AcceptedAs f s ps
 of-file f s ps file =
     let a = file .leading in
     let first = first-on f (firstFour ps) [] ps (a .cuts) (a .cuts-are) refl (file .some) in

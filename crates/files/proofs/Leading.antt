@@ -5,11 +5,11 @@ use mathlib.Core.List.{List, _++_}
 use native.Mathlib.Omega.{arith}
 use lib.ListN.{length, take, drop, length-append}
 use lib.Seq.{take-at, drop-at, drop-drop, drop-append-seam}
-use Rattle.sections.specs.Accepted.{Kinds, sectionAt}
+use Rattle.sections.specs.Accepted.{Format, sectionAt}
 use Rattle.files.specs.File.{Parts, Leading}
 use Rattle.files.proofs.Section.{octets-of, rest-of}
 
-module _ {f : Kinds} {s : List ℕ} {ps : List Parts} {left : List ℕ} (a : Leading f s ps left) where
+module _ {f : Format} {s : List ℕ} {ps : List Parts} {left : List ℕ} (a : Leading f s ps left) where
   pub size-of : length s ≡ 37 + (length (a .cuts) + length left)
   size-of =
       let l0 = a .zero-long in

@@ -14,8 +14,8 @@ use Rattle.rules.specs.Rules.{field, is, rules8}
 use Rattle.rules.specs.Fields.{lengthAt, numberAt}
 use Rattle.rules.proofs.Bounds.{nth-rule, is-exactly}
 use Rattle.rules.proofs.Moved.{field-same}
-use Rattle.sections.specs.Accepted.{Kinds}
-use Rattle.files.specs.File.{Is, Parts, Whole, Cuts, none, own, shared, Leading, File, firstFour, bodyOf}
+use Rattle.sections.specs.Accepted.{Format}
+use Rattle.files.specs.File.{Is, Parts, Whole, Cuts, none, new-3, same-3, Leading, File, firstFour, bodyOf}
 use Rattle.files.specs.Smaller.{totalled, sevens, assembled}
 use Rattle.files.proofs.Leading.{size-of, past-one, past-cuts}
 use Rattle.files.proofs.FromFile.{body-length}
@@ -46,7 +46,7 @@ same-section {o = o} {p = p} r q i j e =
     }
 
 -- the same of a cut's body
-same-body : (k : Kinds) (first first' : List ℕ) (p q : Parts) (r t : List ℕ) → Whole k first p → Whole k first' q → p .three ≡ q .three → bodyOf p r ≡ bodyOf q t
+same-body : (k : Format) (first first' : List ℕ) (p q : Parts) (r t : List ℕ) → Whole k first p → Whole k first' q → p .three ≡ q .three → bodyOf p r ≡ bodyOf q t
     → (p ≡ q) × (r ≡ t)
 same-body k first first' p q r t a b e3 e =
     let x4 = same-section _ _ (a .four) (b .four) e in
@@ -55,13 +55,13 @@ same-body k first first' p q r t a b e3 e =
     let x7 = same-section _ _ (a .seven) (b .seven) (x6 .rest) in
     ((λ i. record { three = e3 i; four = x4 .section i; five = x5 .section i; six = x6 .section i; seven = x7 .section i }), x7 .rest)
 
-cuts-long : (k : Kinds) (first s3 : List ℕ) (ps : List Parts) (a : List ℕ) → Cuts k first s3 ps a → 1 ≤ length ps → 5 ≤ length a
+cuts-long : (k : Format) (first s3 : List ℕ) (ps : List Parts) (a : List ℕ) → Cuts k first s3 ps a → 1 ≤ length ps → 5 ≤ length a
 cuts-long k first s3 ps a none some = absurd (omega arith)
-cuts-long k first s3 ps a (own {rest = r} {p = p} w c) some =
+cuts-long k first s3 ps a (new-3 {rest = r} {p = p} w c) some =
     let l = length-append (p .three) (bodyOf p r) in
     let f = w .three .some in
     omega arith
-cuts-long k first s3 ps a (shared {rest = r} {p = p} w c) some =
+cuts-long k first s3 ps a (same-3 {rest = r} {p = p} w c) some =
     let l = body-length p r in
     let f = w .four .some in
     omega arith
@@ -74,13 +74,13 @@ pub record Longer (ps qs : List Parts) (a b : List ℕ) : Type 0 where
   pub octets : b ≡ a ++ extra
   pub long : 1 ≤ length more → 5 ≤ length extra
 
-pub one-reading : (k : Kinds) (first first' s3 t3 : List ℕ) (ps qs : List Parts) (a b x y : List ℕ) → Cuts k first s3 ps a → Cuts k first' t3 qs b → s3 ≡ t3
+pub one-reading : (k : Format) (first first' s3 t3 : List ℕ) (ps qs : List Parts) (a b x y : List ℕ) → Cuts k first s3 ps a → Cuts k first' t3 qs b → s3 ≡ t3
     → a ++ x ≡ b ++ y → length ps ≤ length qs → Longer ps qs a b
 one-reading k first first' s3 t3 ps qs a b x y none d e3 e le =
     record { more = qs; are = refl; extra = b; octets = refl; long = cuts-long k first' t3 qs b d }
-one-reading k first first' s3 t3 ps qs a b x y (own w c) none e3 e le = absurd (omega arith)
-one-reading k first first' s3 t3 ps qs a b x y (shared w c) none e3 e le = absurd (omega arith)
-one-reading k first first' s3 t3 ps qs a b x y (own {rest = r} {p = p} {ps = us} w c) (own {rest = t} {p = q} {ps = vs} v d) e3 e le =
+one-reading k first first' s3 t3 ps qs a b x y (new-3 w c) none e3 e le = absurd (omega arith)
+one-reading k first first' s3 t3 ps qs a b x y (same-3 w c) none e3 e le = absurd (omega arith)
+one-reading k first first' s3 t3 ps qs a b x y (new-3 {rest = r} {p = p} {ps = us} w c) (new-3 {rest = t} {p = q} {ps = vs} v d) e3 e le =
     let e' : p .three ++ (bodyOf p r ++ x) ≡ q .three ++ (bodyOf q t ++ y) =
     sym (append-assoc (p .three) (bodyOf p r) x) ∙ e ∙ append-assoc (q .three) (bodyOf q t) y in
     let s = same-section _ _ (w .three) (v .three) e' in
@@ -96,7 +96,7 @@ one-reading k first first' s3 t3 ps qs a b x y (own {rest = r} {p = p} {ps = us}
           ∙ sym (append-assoc (p .three) (bodyOf p r) (n .extra));
       long = n .long;
     }
-one-reading k first first' s3 t3 ps qs a b x y (shared {rest = r} {p = p} {ps = us} w c) (shared {rest = t} {p = q} {ps = vs} v d) e3 e le =
+one-reading k first first' s3 t3 ps qs a b x y (same-3 {rest = r} {p = p} {ps = us} w c) (same-3 {rest = t} {p = q} {ps = vs} v d) e3 e le =
     let z = same-body k first first' p q (r ++ x) (t ++ y) w v e3 (sym (body-assoc p r x) ∙ e ∙ body-assoc q t y) in
     let n = one-reading k first first' (p .three) (q .three) us vs r t x y c d e3 (z .1) (omega arith) in
     record {
@@ -106,12 +106,12 @@ one-reading k first first' s3 t3 ps qs a b x y (shared {rest = r} {p = p} {ps = 
       octets = (λ i. bodyOf (sym (z .0) i) (n .octets i)) ∙ sym (body-assoc p r (n .extra));
       long = n .long;
     }
-one-reading k first first' s3 t3 ps qs a b x y (own {rest = r} {p = p} w c) (shared {rest = t} {p = q} v d) e3 e le =
+one-reading k first first' s3 t3 ps qs a b x y (new-3 {rest = r} {p = p} w c) (same-3 {rest = t} {p = q} v d) e3 e le =
     let e' : p .three ++ (bodyOf p r ++ x) ≡ bodyOf q (t ++ y) = sym (append-assoc (p .three) (bodyOf p r) x) ∙ e ∙ body-assoc q t y in
     let s = same-section _ _ (w .three) (v .four) e' in
     let z = s .number in
     absurd (omega arith)
-one-reading k first first' s3 t3 ps qs a b x y (shared {rest = r} {p = p} w c) (own {rest = t} {p = q} v d) e3 e le =
+one-reading k first first' s3 t3 ps qs a b x y (same-3 {rest = r} {p = p} w c) (new-3 {rest = t} {p = q} v d) e3 e le =
     let e' : bodyOf p (r ++ x) ≡ q .three ++ (bodyOf q t ++ y) = sym (body-assoc p r x) ∙ e ∙ append-assoc (q .three) (bodyOf q t) y in
     let s = same-section _ _ (w .four) (v .three) e' in
     let z = s .number in
@@ -120,13 +120,13 @@ one-reading k first first' s3 t3 ps qs a b x y (shared {rest = r} {p = p} w c) (
 -- ── the readings of any octets, and of a file ──
 
 -- of two readings of the same octets the longer has the cuts of the shorter first
-pub leading-one : (k : Kinds) (s : List ℕ) (ps qs : List Parts) (left left' : List ℕ) (a : Leading k s ps left) (b : Leading k s qs left') → length ps ≤ length qs
+pub leading-one : (k : Format) (s : List ℕ) (ps qs : List Parts) (left left' : List ℕ) (a : Leading k s ps left) (b : Leading k s qs left') → length ps ≤ length qs
     → Longer ps qs (a .cuts) (b .cuts)
 leading-one k s ps qs left left' a b le =
     one-reading k (firstFour ps) (firstFour qs) [] [] ps qs (a .cuts) (b .cuts) left left' (a .cuts-are) (b .cuts-are) refl (sym (past-one a) ∙ past-one b) le
 
 -- a file has no more leading cuts than cuts: past them stand four octets, too few for a section
-pub file-most : (k : Kinds) (s : List ℕ) (ps qs : List Parts) (left : List ℕ) → File k s ps → Leading k s qs left → length qs ≤ length ps
+pub file-most : (k : Format) (s : List ℕ) (ps qs : List Parts) (left : List ℕ) → File k s ps → Leading k s qs left → length qs ≤ length ps
 file-most k s ps qs left file b = go (decLe (length qs) (length ps))
   where
     go : Dec (length qs ≤ length ps) → length qs ≤ length ps
@@ -161,7 +161,7 @@ unfolding inOctets
 seven-octets = refl
 
 -- an accepted file comes out unchanged
-pub unchanged : (k : Kinds) (s : List ℕ) (ps : List Parts) (file : File k s ps) → ((i : ℕ) → getD s i 0 < 256)
+pub unchanged : (k : Format) (s : List ℕ) (ps : List Parts) (file : File k s ps) → ((i : ℕ) → getD s i 0 < 256)
     → assembled (file .leading .zero) (file .leading .one) (file .leading .cuts) ≡ s
 unfolding field rules8
 unchanged k s ps file small =

@@ -10,8 +10,8 @@ use Rattle.octets.specs.Octets.{be, same}
 use Rattle.octets.proofs.Same.{same-eq, same-refl}
 use Rattle.octets.proofs.Written.{written-length}
 use Rattle.rules.specs.Rules.{field, meets, meetsAll, rules0, rules8}
-use Rattle.sections.specs.Accepted.{Meets, Kinds}
-use Rattle.files.specs.File.{Parts, Whole, Cuts, none, own, shared, Leading, File, firstFour, bodyOf, totalIn}
+use Rattle.sections.specs.Accepted.{Meets, Format}
+use Rattle.files.specs.File.{Parts, Whole, Cuts, none, new-3, same-3, Leading, File, firstFour, bodyOf, totalIn}
 use Rattle.files.specs.Smaller.{chosen, cutsAfter, totalled, sevens, assembled}
 use Rattle.files.proofs.Leading.{size-of}
 use Rattle.files.proofs.Each.{Each, of-none, of-one, each-of}
@@ -19,7 +19,7 @@ use Rattle.files.proofs.Total.{totalled-long, total-is, totalled-is}
 use Rattle.files.proofs.FromFile.{body-length}
 
 -- any cut's section 4 may be the first
-abbrev pub Regular : Kinds → Type 0
+abbrev pub Regular : Format → Type 0
 Regular f = (first s3 a s3' b : List ℕ) → f .Four first s3 a → f .Four first s3' b → f .Four a s3' b
 
 -- some of the cuts, in order
@@ -41,7 +41,7 @@ some-few qs ps nil = omega arith
 some-few qs ps (take-it {qs = q} {ps = p} r) = let h = some-few q p r in omega arith
 some-few qs ps (leave-it {ps = p} r) = let h = some-few qs p r in omega arith
 
-module _ (f : Kinds) (first : List ℕ) where
+module _ (f : Format) (first : List ℕ) where
   pub each-some : (qs ps : List Parts) → Some qs ps → Each f first ps → Each f first qs
   each-some qs ps nil e = of-none
   each-some qs ps (take-it {qs = q} {ps = p} r) (of-one w e) = of-one w (each-some q p r e)
@@ -56,8 +56,8 @@ module _ (f : Kinds) (first : List ℕ) where
           → Cuts f first s3 (p ∷ qs) (cond b (bodyOf p (cutsAfter (p .three) qs)) (p .three ++ bodyOf p (cutsAfter (p .three) qs)))
       go true h c =
           subst (λ (o : List ℕ). Cuts f first o (p ∷ qs) (bodyOf p (cutsAfter (p .three) qs))) (sym (same-eq s3 (p .three) h))
-          (shared w c)
-      go false h c = own w c
+          (same-3 w c)
+      go false h c = new-3 w c
 
   -- no longer than where they stood: each section 3 that is written stood there too
   abbrev cost : List ℕ → List ℕ → ℕ
@@ -87,7 +87,7 @@ module _ (f : Kinds) (first : List ℕ) where
   pub no-longer : (w s3 : List ℕ) (qs ps : List Parts) (rest : List ℕ) → Some qs ps → Cuts f first s3 ps rest
       → length (cutsAfter w qs) ≤ length rest + cost w s3
   no-longer w s3 qs ps rest nil c = omega arith
-  no-longer w s3 qs ps rest (take-it {p = p} {qs = us} {ps = vs} t) (own {rest = r} x c) =
+  no-longer w s3 qs ps rest (take-it {p = p} {qs = us} {ps = vs} t) (new-3 {rest = r} x c) =
       let ih = no-longer (p .three) (p .three) us vs r t c in
       let z : cost (p .three) (p .three) ≡ 0 = rw (same-refl (p .three)) in
       let k = cost-le w (p .three) in
@@ -95,26 +95,26 @@ module _ (f : Kinds) (first : List ℕ) where
       let e = head-length w p (cutsAfter (p .three) us) in
       let l = length-append (p .three) (bodyOf p r) in
       omega arith
-  no-longer w s3 qs ps rest (take-it {p = p} {qs = us} {ps = vs} t) (shared {rest = r} x c) =
+  no-longer w s3 qs ps rest (take-it {p = p} {qs = us} {ps = vs} t) (same-3 {rest = r} x c) =
       let ih = no-longer (p .three) (p .three) us vs r t c in
       let z : cost (p .three) (p .three) ≡ 0 = rw (same-refl (p .three)) in
       let b = body-less p (cutsAfter (p .three) us) r (omega arith) in
       let e = head-length w p (cutsAfter (p .three) us) in
       omega arith
-  no-longer w s3 qs ps rest (leave-it {p = p} {ps = vs} t) (own {rest = r} x c) =
+  no-longer w s3 qs ps rest (leave-it {p = p} {ps = vs} t) (new-3 {rest = r} x c) =
       let ih = no-longer w (p .three) qs vs r t c in
       let k = cost-le w (p .three) in
       let b = body-more p r in
       let l = length-append (p .three) (bodyOf p r) in
       omega arith
-  no-longer w s3 qs ps rest (leave-it {p = p} {ps = vs} t) (shared {rest = r} x c) =
+  no-longer w s3 qs ps rest (leave-it {p = p} {ps = vs} t) (same-3 {rest = r} x c) =
       let ih = no-longer w (p .three) qs vs r t c in
       let b = body-more p r in
       omega arith
 
 -- ── another first section 4 ──
 
-other-first : (f : Kinds) → Regular f → (first : List ℕ) (p q : Parts) → Whole f first p → Whole f first q → Whole f (p .four) q
+other-first : (f : Format) → Regular f → (first : List ℕ) (p q : Parts) → Whole f first p → Whole f first q → Whole f (p .four) q
 other-first f reg first p q a b =
     record {
       three = b .three;
@@ -130,11 +130,11 @@ other-first f reg first p q a b =
       seven-is = b .seven-is;
     }
 
-all-first : (f : Kinds) → Regular f → (first : List ℕ) (p : Parts) (qs : List Parts) → Whole f first p → Each f first qs → Each f (p .four) qs
+all-first : (f : Format) → Regular f → (first : List ℕ) (p : Parts) (qs : List Parts) → Whole f first p → Each f first qs → Each f (p .four) qs
 all-first f reg first p qs a of-none = of-none
 all-first f reg first p qs a (of-one {p = q} {ps = rs} b e) = of-one (other-first f reg first p q a b) (all-first f reg first p rs a e)
 
-own-first : (f : Kinds) → Regular f → (first : List ℕ) (qs : List Parts) → Each f first qs → Each f (firstFour qs) qs
+own-first : (f : Format) → Regular f → (first : List ℕ) (qs : List Parts) → Each f first qs → Each f (firstFour qs) qs
 own-first f reg first qs of-none = of-none
 own-first f reg first qs (of-one {p = p} {ps = rs} a e) = of-one (other-first f reg first p p a a) (all-first f reg first p rs a e)
 
@@ -145,7 +145,7 @@ unfolding rules8 meetsAll meets field be
 sevens-are = refl
 
 -- sections 0 and 1 and cuts that stand one after the other: assembled, they are a file with these cuts (wishes 8 and 13)
-pub assembled-file : (f : Kinds) (s : List ℕ) (ps : List Parts) (left : List ℕ) (a : Leading f s ps left) → 1 ≤ length ps → length ps ≤ 64
+pub assembled-file : (f : Format) (s : List ℕ) (ps : List Parts) (left : List ℕ) (a : Leading f s ps left) → 1 ≤ length ps → length ps ≤ 64
     → length (a .cuts) ≤ 8388567 → File f (assembled (a .zero) (a .one) (a .cuts)) ps
 assembled-file f s ps left a some few le =
     let l1 = a .one-long in
@@ -181,7 +181,7 @@ assembled-file f s ps left a some few le =
       eight-is = sevens-are;
     }
 
-module _ (f : Kinds) (s : List ℕ) (ps qs : List Parts) (file : File f s ps) (sub : Some qs ps) where
+module _ (f : Format) (s : List ℕ) (ps qs : List Parts) (file : File f s ps) (sub : Some qs ps) where
   cuts-short : length (cutsAfter [] qs) ≤ length (file .leading .cuts)
   cuts-short =
       let a = file .leading in

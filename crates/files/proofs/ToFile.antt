@@ -11,16 +11,16 @@ use Rattle.rules.proofs.Bounds.{nth-rule, is-exactly}
 use Rattle.rules.proofs.Moved.{reachAll, rules-same}
 use Rattle.sections.specs.Verdict.{endOf}
 use Rattle.sections.specs.Accepted as A
-use Rattle.sections.specs.Accepted.{Meets, Kinds, Body, AcceptedBy, sectionAt}
+use Rattle.sections.specs.Accepted.{Meets, Format, Body, AcceptedBy, sectionAt}
 use Rattle.sections.specs.declared.Cut.{Cut}
 use Rattle.sections.proofs.There.{lies-at, there, goes-on}
-use Rattle.files.specs.File.{Is, Parts, partsAt, Whole, Cuts, none, own, shared, File, firstFour, bodyOf, totalIn}
+use Rattle.files.specs.File.{Is, Parts, partsAt, Whole, Cuts, none, new-3, same-3, File, firstFour, bodyOf, totalIn}
 use Rattle.files.proofs.Section.{is-at}
 
 pub body-assoc : (p : Parts) (r t : List ℕ) → bodyOf p r ++ t ≡ bodyOf p (r ++ t)
 body-assoc p r t = simp append-assoc
 
-module _ (f : Kinds) (s : List ℕ) (end : ℕ) (inside : end ≤ length s) where
+module _ (f : Format) (s : List ℕ) (end : ℕ) (inside : end ≤ length s) where
   -- the cut of a body, by its octets
   record BodyIn (first : List ℕ) (s3 at : ℕ) (c : Cut) (next : ℕ) : Type 0 where
     pub p : Parts
@@ -92,7 +92,7 @@ module _ (f : Kinds) (s : List ℕ) (end : ℕ) (inside : end ≤ length s) wher
         ps = b .p ∷ r .ps;
         rest = b .p .three ++ bodyOf (b .p) (r .rest);
         are = (λ i. b .are i ∷ r .are i);
-        cuts = own (b .whole) (subst (λ (o : List ℕ). Cuts f first o (r .ps) (r .rest)) (sym (b .three)) (r .cuts));
+        cuts = new-3 (b .whole) (subst (λ (o : List ℕ). Cuts f first o (r .ps) (r .rest)) (sym (b .three)) (r .cuts));
         from =
             e
             ∙ (λ i. sym (b .three) i ++ (b .from ∙ ap (bodyOf (b .p)) (r .from) ∙ sym (body-assoc (b .p) (r .rest) (drop end s))) i)
@@ -108,18 +108,18 @@ module _ (f : Kinds) (s : List ℕ) (end : ℕ) (inside : end ≤ length s) wher
         are = (λ i. b .are i ∷ r .are i);
         cuts =
             subst (λ (o : List ℕ). Cuts f first o (b .p ∷ r .ps) (bodyOf (b .p) (r .rest))) (b .three)
-            (shared (b .whole) (subst (λ (o : List ℕ). Cuts f first o (r .ps) (r .rest)) (sym (b .three)) (r .cuts)));
+            (same-3 (b .whole) (subst (λ (o : List ℕ). Cuts f first o (r .ps) (r .rest)) (sym (b .three)) (r .cuts)));
         from = b .from ∙ ap (bodyOf (b .p)) (r .from) ∙ sym (body-assoc (b .p) (r .rest) (drop end s));
       }
 
   cuts-in : (first s3 at : ℕ) (cs : List Cut) → Is 3 (sectionAt s s3) → f .Three (sectionAt s s3) → A.Cuts f s end first s3 at cs
       → CutsIn (sectionAt s first) (sectionAt s s3) at cs
   cuts-in first s3 at cs i3 t3 A.none = record { ps = []; rest = []; are = refl; cuts = none; from = refl }
-  cuts-in first s3 at cs i3 t3 (A.own {b = b} {next = next} {c = c} {cs = ds} here is body r) =
+  cuts-in first s3 at cs i3 t3 (A.new-3 {b = b} {next = next} {c = c} {cs = ds} here is body r) =
       let i = is-at inside here in
       one-own (sectionAt s first) (sectionAt s s3) at b c next ds (body-in first at b c next i is body) (cuts-in first at next ds i is r) at
       (goes-on inside here)
-  cuts-in first s3 at cs i3 t3 (A.shared {next = next} {c = c} {cs = ds} body r) =
+  cuts-in first s3 at cs i3 t3 (A.same-3 {next = next} {c = c} {cs = ds} body r) =
       one-shared (sectionAt s first) s3 at c next ds (body-in first s3 at c next i3 t3 body) (cuts-in first s3 next ds i3 t3 r)
 
 -- ── sections 0, 1 and 8 ──
@@ -142,7 +142,7 @@ unfolding rules0
 total-of o n h = is-exactly o 0 9 8 n (nth-rule o 0 (rules0 n) (is 0 0 0) h 3 (omega arith))
 
 -- THE LAW: the sections of an accepted file, one after the other, are the file
-pub file-of : (f : Kinds) (s : List ℕ) (cs : List Cut) → AcceptedBy f s cs → File f s (map (partsAt s) cs)
+pub file-of : (f : Format) (s : List ℕ) (cs : List Cut) → AcceptedBy f s cs → File f s (map (partsAt s) cs)
 file-of f s cs a =
     let p = a .past in
     let small = a .small in

@@ -6,7 +6,7 @@ use mathlib.Core.List.{List, [], _∷_, _++_}
 use lib.ListN.{length}
 use Rattle.rules.specs.Rules.{field, rules0, rules1, rules6, rules8}
 use Rattle.rules.specs.Fields.{lengthAt, numberAt}
-use Rattle.sections.specs.Accepted.{Meets, Kinds, sectionAt}
+use Rattle.sections.specs.Accepted.{Meets, Format, sectionAt}
 use Rattle.sections.specs.declared.Cut.{Cut}
 
 -- the total that section 0 writes
@@ -42,7 +42,7 @@ partsAt s c =
       seven = sectionAt s (c .section7);
     }
 
-module _ (f : Kinds) where
+module _ (f : Format) where
   -- a cut, in a file whose first section 4 is `first`
   pub record Whole (first : List ℕ) (p : Parts) : Type 0 where
     pub three : Is 3 (p .three)
@@ -60,9 +60,9 @@ module _ (f : Kinds) where
   -- the octets of cuts, under the section 3 last seen: a cut is 3 4 5 6 7, or 4 5 6 7 where its section 3 is that one
   pub data Cuts (first : List ℕ) : List ℕ → List Parts → List ℕ → Type 0 where
     none : {s3 : List ℕ} → Cuts first s3 [] []
-    own : {s3 rest : List ℕ} {p : Parts} {ps : List Parts}
+    new-3 : {s3 rest : List ℕ} {p : Parts} {ps : List Parts}
         → Whole first p → Cuts first (p .three) ps rest → Cuts first s3 (p ∷ ps) (p .three ++ bodyOf p rest)
-    shared : {rest : List ℕ} {p : Parts} {ps : List Parts}
+    same-3 : {rest : List ℕ} {p : Parts} {ps : List Parts}
         → Whole first p → Cuts first (p .three) ps rest → Cuts first (p .three) (p ∷ ps) (bodyOf p rest)
 
 -- the section 4 of the first cut
@@ -71,7 +71,7 @@ firstFour [] = []
 firstFour (p ∷ ps) = p .four
 
 -- sections 0 and 1, then these cuts, and what is left. (No section 3 has been seen before the first cut, so that it needs one.)
-pub record Leading (f : Kinds) (s : List ℕ) (ps : List Parts) (left : List ℕ) : Type 0 where
+pub record Leading (f : Format) (s : List ℕ) (ps : List Parts) (left : List ℕ) : Type 0 where
   pub zero : List ℕ
   pub one : List ℕ
   pub cuts : List ℕ
@@ -85,7 +85,7 @@ pub record Leading (f : Kinds) (s : List ℕ) (ps : List Parts) (left : List ℕ
   pub cuts-are : Cuts f (firstFour ps) [] ps cuts
 
 -- a file and its cuts: 0 with the file's length, 1, then 1 to 64 cuts, then 8
-pub record File (f : Kinds) (s : List ℕ) (ps : List Parts) : Type 0 where
+pub record File (f : Format) (s : List ℕ) (ps : List Parts) : Type 0 where
   pub eight : List ℕ
   pub leading : Leading f s ps eight
   pub total : totalIn (leading .zero) ≡ length s

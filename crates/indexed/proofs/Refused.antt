@@ -15,11 +15,11 @@ use Rattle.sections.specs.Parts.{binsIn, raysIn}
 use Rattle.sections.specs.declared.Cut.{Cut}
 use Rattle.sections.specs.declared.Refusal.{Refusal}
 use Rattle.sections.specs.declared.Why.the-variants.{Argument, Room, Record}
-use Rattle.layout.specs.Parts.{dataAt, greatestIn}
-use Rattle.layout.specs.Checks.{ownChecks, anyDataChecks}
-use Rattle.layout.specs.Accepted.{kinds, anyDataKinds}
-use Rattle.layout.proofs.Exact.{exact, any-exact}
-use Rattle.layout.proofs.AnyData.{never-eight}
+use Rattle.base_format.specs.Parts.{dataAt, greatestIn}
+use Rattle.base_format.specs.Checks.{baseChecks, anyDataChecks}
+use Rattle.base_format.specs.Accepted.{baseFormat, anyDataFormat}
+use Rattle.base_format.proofs.Exact.{exact, any-exact}
+use Rattle.base_format.proofs.AnyData.{never-eight}
 use Rattle.cuts.specs.Records.{usableIn}
 use Rattle.calls.specs.Reasons.{by-file, no-cut, on-cut, by-argument, by-room, by-record}
 use Rattle.calls.specs.declared.RayAnswer.{RayAnswer}
@@ -35,7 +35,7 @@ module _ (s : List ℕ) (i ray room : ℕ) (rec : RayRecord) where
   from-reason : (q : Refusal) → Refused q ≡ fromAnswer s i ray rec room → FromReasons s i ray room rec q
   unfolding fromAnswer fromOn usableIn
   from-reason q h =
-      reason anyDataChecks anyDataKinds any-exact s Refused (fromOn s ray rec room) i (FromFault s ray room rec) q (λ r e. cc e)
+      reason anyDataChecks anyDataFormat any-exact s Refused (fromOn s ray rec room) i (FromFault s ray room rec) q (λ r e. cc e)
       (λ c e. split c (ltb ray (raysIn s c)) (ltb room (binsIn s c)) (usableIn s c rec) refl refl refl e)
       (sym h)
     where
@@ -62,7 +62,7 @@ module _ (s : List ℕ) (i ray room : ℕ) (rec : RayRecord) where
 
   reason-from : (q : Refusal) → FromReasons s i ray room rec q → fromAnswer s i ray rec room ≡ Refused q
   unfolding fromAnswer
-  reason-from q h = by-reason anyDataChecks anyDataKinds any-exact s Refused (fromOn s ray rec room) i (FromFault s ray room rec) q from-fault h
+  reason-from q h = by-reason anyDataChecks anyDataFormat any-exact s Refused (fromOn s ray rec room) i (FromFault s ray room rec) q from-fault h
 
 -- ── ray levels by a record ──
 
@@ -102,7 +102,7 @@ module _ (s : List ℕ) (i : ℕ) (q : Refusal) (row row′ : List RayRecord) wh
   pub build-refused : BuildPromise s i row (Refused q) row′ → BuildReasons s i (length row) q × (row′ ≡ row)
   unfolding buildAnswer buildOn rowAfter
   build-refused p = (
-    reason ownChecks kinds exact s Refused (buildOn s (length row)) i (BuildFault s (length row)) q (λ r e. cc e)
+    reason baseChecks baseFormat exact s Refused (buildOn s (length row)) i (BuildFault s (length row)) q (λ r e. cc e)
         (λ c e. split c (ltb (length row) (raysIn s c)) refl e)
         (sym (p .answer)),
     p .after,
@@ -120,4 +120,4 @@ build-fault s room c r (by-record right fits w) = absurd w
 
 pub refused-build : (s : List ℕ) (i : ℕ) (q : Refusal) (row row′ : List RayRecord) (r : RayAnswer) → BuildReasons s i (length row) q → BuildPromise s i row r row′ → r ≡ Refused q
 unfolding buildAnswer
-refused-build s i q row row′ r h p = p .answer ∙ by-reason ownChecks kinds exact s Refused (buildOn s (length row)) i (BuildFault s (length row)) q (build-fault s (length row)) h
+refused-build s i q row row′ r h p = p .answer ∙ by-reason baseChecks baseFormat exact s Refused (buildOn s (length row)) i (BuildFault s (length row)) q (build-fault s (length row)) h

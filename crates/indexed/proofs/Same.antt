@@ -17,14 +17,14 @@ use Rattle.values.specs.Ray.{marksOf, valuesOf}
 use Rattle.sections.specs.Parts.{binsIn, raysIn}
 use Rattle.sections.specs.Verdict.{Verdict, accepted, noCut}
 use Rattle.sections.specs.declared.Cut.{Cut}
-use Rattle.layout.specs.Parts.{dataAt, greatestIn, productIn}
-use Rattle.layout.specs.Good.{GoodCut}
-use Rattle.layout.specs.Checks.{ownChecks}
-use Rattle.layout.specs.Accepted.{kinds, Accepted}
-use Rattle.layout.specs.Verdict.{verdict, anyDataVerdict}
-use Rattle.layout.proofs.Exact.{exact}
-use Rattle.layout.proofs.GoodCuts.{good-accepted}
-use Rattle.layout.proofs.AnyData.{any-same}
+use Rattle.base_format.specs.Parts.{dataAt, greatestIn, productIn}
+use Rattle.base_format.specs.Good.{GoodCut}
+use Rattle.base_format.specs.Checks.{baseChecks}
+use Rattle.base_format.specs.Accepted.{baseFormat, Accepted}
+use Rattle.base_format.specs.Verdict.{verdict, anyDataVerdict}
+use Rattle.base_format.proofs.Exact.{exact}
+use Rattle.base_format.proofs.GoodCuts.{good-accepted}
+use Rattle.base_format.proofs.AnyData.{any-same}
 use Rattle.cuts.specs.Bins.{rayIn}
 use Rattle.cuts.specs.Records.{recordsIn, usableIn, rayFrom}
 use Rattle.cuts.proofs.Places.{ray-gives}
@@ -125,7 +125,7 @@ module _ (s : List ℕ) (i : ℕ) (row row′ : List RayRecord) (built : BuildPr
   standing : Built
   unfolding buildAnswer rowAfter cutAt recordsIn
   standing =
-      by-verdict ownChecks kinds exact s Refused (buildOn s (length row)) i Written Built
+      by-verdict baseChecks baseFormat exact s Refused (buildOn s (length row)) i Written Built
       (λ r k x. absurd (let z : _≡_ {A = ℕ} 0 1 = cc x in omega arith))
       (λ cs k le x. absurd (let z : _≡_ {A = ℕ} 0 1 = cc x in omega arith))
       (λ cs k lt x. record { cs = cs; whole = exact .accepted-all s cs k; some = lt; is = found cs (exact .accepted-all s cs k) })

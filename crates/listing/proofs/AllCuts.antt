@@ -5,12 +5,12 @@ use mathlib.Core.List.{List, []}
 use native.Mathlib.Omega.{arith}
 use lib.ListN.{length, getD}
 use Rattle.sections.specs.Verdict.{Verdict, accepted, refused, noCut}
-use Rattle.layout.specs.Verdict.{verdict}
-use Rattle.layout.specs.Accepted.{Accepted}
-use Rattle.layout.specs.Good.{GoodCut}
+use Rattle.base_format.specs.Verdict.{verdict}
+use Rattle.base_format.specs.Accepted.{Accepted}
+use Rattle.base_format.specs.Good.{GoodCut}
 use Rattle.sections.specs.declared.Cut.{Cut}
-use Rattle.layout.proofs.Exact.{exact}
-use Rattle.layout.proofs.GoodCuts.{good-accepted}
+use Rattle.base_format.proofs.Exact.{exact}
+use Rattle.base_format.proofs.GoodCuts.{good-accepted}
 use Rattle.cuts.specs.After.{cutAfter}
 use Rattle.cuts.proofs.After.{next-is}
 use Rattle.listing.specs.Progress.{cutsBy, cutsIn}

@@ -9,7 +9,7 @@ use lib.IntN.{pos}
 use lib.ListN.{length, take, drop, getD, length-take, length-drop}
 use lib.Seq.{length-sets}
 use Rattle.sections.specs.Parts.{binsIn, raysIn}
-use Rattle.layout.specs.Good.{GoodCut}
+use Rattle.base_format.specs.Good.{GoodCut}
 use Rattle.sections.specs.Verdict.{noCut}
 use Rattle.sections.specs.declared.Cut.{Cut}
 use Rattle.stretches.specs.Stretch.{Entry, perEntry, wordsOf}

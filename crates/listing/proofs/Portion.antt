@@ -13,8 +13,8 @@ use lib.IntN.{ℤ}
 use Rattle.runs.specs.Run.{levels}
 use Rattle.runs.proofs.Bins.{either}
 use Rattle.sections.specs.Parts.{binsIn, raysIn}
-use Rattle.layout.specs.Parts.{productIn, greatestIn, dataAt}
-use Rattle.layout.specs.Good.{GoodCut}
+use Rattle.base_format.specs.Parts.{productIn, greatestIn, dataAt}
+use Rattle.base_format.specs.Good.{GoodCut}
 use Rattle.sections.specs.declared.Cut.{Cut}
 use Rattle.stretches.specs.Stretch.{Entry, perEntry, kindAt, fresh, starts, entryAt, more, listFrom, stretchesOf, past}
 use Rattle.stretches.specs.Call.{scaleOf, listed, fitting, answer, answerOf, rightPoint}

@@ -7,7 +7,7 @@ use borrow.Author.Tests.{lt-ltb, le-ltb}
 use lib.ListN.{length, getD}
 use Rattle.sections.specs.Refusal.{numberOf}
 use Rattle.sections.specs.Verdict.{Verdict, accepted, refused, noCut}
-use Rattle.layout.specs.Verdict.{verdict}
+use Rattle.base_format.specs.Verdict.{verdict}
 use Rattle.sections.specs.declared.Cut.{Cut}
 use Rattle.sections.specs.declared.Refusal.{Refusal}
 use Rattle.sections.specs.declared.Why.the-variants.{FileSize}

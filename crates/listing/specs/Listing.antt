@@ -9,10 +9,10 @@ use lib.IntN.{pos}
 use Rattle.values.specs.declared.Product.{Product}
 use Rattle.values.specs.declared.Product.the-variants.{Reflectivity, Velocity}
 use Rattle.sections.specs.Parts.{binsIn, raysIn}
-use Rattle.layout.specs.Parts.{productIn}
+use Rattle.base_format.specs.Parts.{productIn}
 use Rattle.sections.specs.Refusal.{numberOf}
 use Rattle.sections.specs.Verdict.{Verdict, accepted, refused}
-use Rattle.layout.specs.Verdict.{verdict}
+use Rattle.base_format.specs.Verdict.{verdict}
 use Rattle.sections.specs.declared.Cut.{Cut}
 use Rattle.stretches.specs.Stretch.{Entry}
 use Rattle.stretches.specs.Call.{houseThreshold}

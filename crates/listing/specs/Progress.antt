@@ -7,7 +7,7 @@ use lib.ListN.{length, take, drop, getD}
 use Rattle.sections.specs.Parts.{binsIn, raysIn}
 use Rattle.sections.specs.Refusal.{numberOf}
 use Rattle.sections.specs.Verdict.{Verdict, accepted, refused, noCut}
-use Rattle.layout.specs.Verdict.{verdict}
+use Rattle.base_format.specs.Verdict.{verdict}
 use Rattle.sections.specs.declared.Cut.{Cut}
 use Rattle.stretches.specs.Stretch.{Entry, perEntry}
 use Rattle.stretches.specs.Call.{answerOf, rightPoint}

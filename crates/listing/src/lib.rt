@@ -132,7 +132,7 @@ fn put_first_line(file: &[u8], t: Turn, text: &mut [u8], at: usize) -> usize
     ensures { λ r. ⌜ Put (now (text .entry)) at (headOf (now (file .entry)) (t .number) (t .cut)) (now (text .exit)) r ⌝ }
 {
     let cut = t.cut;
-    let product = product_number(layout::product_in(file, cut));
+    let product = product_number(base_format::product_in(file, cut));
     let bins = sections::bins_in(file, cut);
     let rays = sections::rays_in(file, cut);
     lines::put_head(

@@ -15,11 +15,11 @@ use Rattle.sections.specs.Verdict.{noCut}
 use Rattle.sections.specs.Parts.{binsIn, raysIn, gridAt}
 use Rattle.sections.specs.declared.Cut.{Cut}
 use Rattle.sections.specs.declared.Refusal.{Refusal}
-use Rattle.layout.specs.Parts.{productIn, levelsIn, levelIn}
-use Rattle.layout.specs.Checks.{ownChecks}
-use Rattle.layout.specs.Verdict.{verdict}
-use Rattle.layout.specs.Accepted.{kinds, Accepted}
-use Rattle.layout.proofs.Exact.{exact}
+use Rattle.base_format.specs.Parts.{productIn, levelsIn, levelIn}
+use Rattle.base_format.specs.Checks.{baseChecks}
+use Rattle.base_format.specs.Verdict.{verdict}
+use Rattle.base_format.specs.Accepted.{baseFormat, Accepted}
+use Rattle.base_format.proofs.Exact.{exact}
 use Rattle.stretches.specs.Stretch.{perEntry}
 use Rattle.stretches.specs.Call.{rightT, rightPoint, answerOf, outOf}
 use Rattle.cuts.specs.Bins.{binsFrom, rayIn, stretchesIn}
@@ -105,7 +105,7 @@ module _ (s : List ℕ) (cs : List Cut) (a : Accepted s cs) (i : ℕ) (lt : i < 
   cut-is = ap (cutAt i) (exact .accepted-all s cs a)
 
   on-cut : {X : Type 0} (bad : Refusal → X) (some : Cut → X) → onCut bad some i (verdict s) ≡ some (getD cs i noCut)
-  on-cut bad some = cut-accepted ownChecks kinds exact s bad some i cs a lt
+  on-cut bad some = cut-accepted baseChecks baseFormat exact s bad some i cs a lt
 
 pub same-calls : (s t : List ℕ) (cs ds : List Cut) → Accepted s cs → Accepted t ds → (i j : ℕ) → i < length cs → j < length ds
     → partsAt s (getD cs i noCut) ≡ partsAt t (getD ds j noCut) → SameCalls s i t j

@@ -15,12 +15,12 @@ use Rattle.sections.specs.Verdict.{noCut}
 use Rattle.sections.specs.Parts.{binsIn, raysIn, gridAt}
 use Rattle.sections.specs.declared.Cut.{Cut}
 use Rattle.sections.specs.declared.Refusal.{Refusal}
-use Rattle.duallayout.specs.Fields.{siteAt}
-use Rattle.duallayout.specs.Checks.{ownChecks}
-use Rattle.duallayout.specs.Verdict.{verdict}
-use Rattle.duallayout.specs.Accepted.{kinds, Accepted}
-use Rattle.duallayout.proofs.Exact.{exact}
-use Rattle.duallayout.proofs.First.{as-first}
+use Rattle.dual_format.specs.Fields.{siteAt}
+use Rattle.dual_format.specs.Checks.{dualChecks}
+use Rattle.dual_format.specs.Verdict.{verdict}
+use Rattle.dual_format.specs.Accepted.{dualFormat, Accepted}
+use Rattle.dual_format.proofs.Exact.{exact}
+use Rattle.dual_format.proofs.First.{as-first}
 use Rattle.calls.specs.Cuts.{onCut}
 use Rattle.sections.specs.Refusal.{refuse}
 use Rattle.sections.specs.declared.Why.the-variants.{Argument}
@@ -59,7 +59,7 @@ bin-by s c p m ray bin =
 
 module _ (s : List ℕ) (cs : List Cut) (a : Accepted s cs) where
   on-cut : (i : ℕ) → i < length cs → {X : Type 0} (bad : Refusal → X) (some : Cut → X) → onCut bad some i (verdict s) ≡ some (getD cs i noCut)
-  on-cut i lt bad some = cut-accepted ownChecks kinds exact s bad some i cs a lt
+  on-cut i lt bad some = cut-accepted dualChecks dualFormat exact s bad some i cs a lt
 
 pub same-dual-calls : (s t : List ℕ) (cs ds : List Cut) → Accepted s cs → Accepted t ds → (i j : ℕ) → i < length cs → j < length ds
     → partsAt s (getD cs i noCut) ≡ partsAt t (getD ds j noCut) → SameDualCalls s i t j
@@ -87,12 +87,12 @@ same-dual-open s t cs ds a b j some lt e one =
     let zero = dual-told-at s cs a 0 (omega arith) in
     let parameter =
     m .parameter ∙ ap (λ (p : Parts). parameterAt (p .four) 0) e
-    ∙ four-alike kinds (λ o. parameterAt o 0) (λ x y z k. as-first x y z k .0) s cs a j 0 lt (omega arith) ∙ sym (zero .parameter) in
+    ∙ four-alike dualFormat (λ o. parameterAt o 0) (λ x y z k. as-first x y z k .0) s cs a j 0 lt (omega arith) ∙ sym (zero .parameter) in
     let site =
     m .site ∙ ap (λ (p : Parts). siteAt (p .four) 0) e
-    ∙ four-alike kinds (λ o. siteAt o 0) (λ x y z k. as-first x y z k .1) s cs a j 0 lt (omega arith) ∙ sym (zero .site) in
-    let time = time-alike kinds t s ds b one in
-    file-accepted ownChecks kinds exact t _ _ ds b
+    ∙ four-alike dualFormat (λ o. siteAt o 0) (λ x y z k. as-first x y z k .1) s cs a j 0 lt (omega arith) ∙ sym (zero .site) in
+    let time = time-alike dualFormat t s ds b one in
+    file-accepted dualChecks dualFormat exact t _ _ ds b
     ∙ (λ i. O.File (record { parameter = parameter i; time = time i; site = site i; cuts = length ds }))
 
 -- two files with the same section 1, the same first cut and as many cuts open alike

@@ -12,12 +12,12 @@ use Rattle.sections.specs.Verdict.{noCut}
 use Rattle.sections.specs.Parts.{binsIn, raysIn, gridAt}
 use Rattle.sections.specs.declared.Cut.{Cut}
 use Rattle.sections.proofs.Alike.{field-alike, bins-alike, rays-alike, grid-alike, parameter-alike}
-use Rattle.duallayout.specs.Fields.{siteAt, referenceAt, binaryAt, decimalAt, widthAt}
-use Rattle.duallayout.specs.Parts.{referenceIn, binaryIn, decimalIn, widthIn, cellIn, toldIn}
-use Rattle.duallayout.specs.Good.{GoodCut}
-use Rattle.duallayout.specs.Accepted.{kinds, Accepted}
-use Rattle.duallayout.proofs.Alike.{lists-long, site-alike, reference-alike, width-alike}
-use Rattle.duallayout.proofs.GoodCuts.{good-accepted}
+use Rattle.dual_format.specs.Fields.{siteAt, referenceAt, binaryAt, decimalAt, widthAt}
+use Rattle.dual_format.specs.Parts.{referenceIn, binaryIn, decimalIn, widthIn, cellIn, toldIn}
+use Rattle.dual_format.specs.Good.{GoodCut}
+use Rattle.dual_format.specs.Accepted.{dualFormat, Accepted}
+use Rattle.dual_format.proofs.Alike.{lists-long, site-alike, reference-alike, width-alike}
+use Rattle.dual_format.proofs.GoodCuts.{good-accepted}
 use Rattle.files.specs.File.{Parts, partsAt, Whole, firstFour}
 use Rattle.files.proofs.Section.{is-there}
 use Rattle.files.proofs.Each.{whole-at}
@@ -40,7 +40,7 @@ cell-room n all w lt = let h : suc n * w ≤ all * w = mul-le-mul-right w lt in 
 cell-few : (ray bin nr nb : ℕ) → ray < nr → bin < nb → ray * nb + bin < nr * nb
 cell-few ray bin nr nb r b = let row : suc ray * nb ≤ nr * nb = mul-le-mul-right nb r in omega arith
 
-told : (s : List ℕ) (c : Cut) (first : List ℕ) → Whole kinds first (partsAt s c) → GoodCut s c → DualTold s c (partsAt s c)
+told : (s : List ℕ) (c : Cut) (first : List ℕ) → Whole dualFormat first (partsAt s c) → GoodCut s c → DualTold s c (partsAt s c)
 unfolding binsIn raysIn referenceIn binaryIn decimalIn widthIn cellIn toldIn binaryAt decimalAt
 told s c first w good =
     let p = partsAt s c in
@@ -77,4 +77,4 @@ told s c first w good =
 
 pub dual-told-at : (s : List ℕ) (cs : List Cut) → Accepted s cs → (i : ℕ) → i < length cs
     → DualTold s (getD cs i noCut) (partsAt s (getD cs i noCut))
-dual-told-at s cs a i lt = told s (getD cs i noCut) (firstFour (map (partsAt s) cs)) (whole-at kinds s cs a i lt) (good-accepted s cs a i lt)
+dual-told-at s cs a i lt = told s (getD cs i noCut) (firstFour (map (partsAt s) cs)) (whole-at dualFormat s cs a i lt) (good-accepted s cs a i lt)

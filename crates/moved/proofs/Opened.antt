@@ -8,11 +8,11 @@ use Rattle.rules.specs.Fields.{parameterAt, siteAt}
 use Rattle.sections.specs.Accepted.{sectionAt}
 use Rattle.sections.specs.Verdict.{noCut}
 use Rattle.sections.specs.declared.Cut.{Cut}
-use Rattle.layout.specs.Parts.{productOf}
-use Rattle.layout.specs.Checks.{ownChecks}
-use Rattle.layout.specs.Accepted.{kinds, Accepted}
-use Rattle.layout.proofs.Exact.{exact}
-use Rattle.layout.proofs.First.{as-first}
+use Rattle.base_format.specs.Parts.{productOf}
+use Rattle.base_format.specs.Checks.{baseChecks}
+use Rattle.base_format.specs.Accepted.{baseFormat, Accepted}
+use Rattle.base_format.proofs.Exact.{exact}
+use Rattle.base_format.proofs.First.{as-first}
 use Rattle.polar.specs.Opening.{summaryOf, openAnswer}
 use Rattle.polar.specs.declared.Opened.the-variants as O
 use Rattle.calls.proofs.ByVerdict.{file-accepted}
@@ -31,12 +31,12 @@ same-open s t cs ds a b j some lt e one =
     let zero = told-at s cs a 0 (omega arith) in
     let product =
     m .product ∙ ap productBy e
-    ∙ four-alike kinds (λ o. productOf (parameterAt o 0)) (λ x y z k. ap productOf (as-first x y z k .0)) s cs a j 0 lt (omega arith) ∙ sym (zero .product) in
+    ∙ four-alike baseFormat (λ o. productOf (parameterAt o 0)) (λ x y z k. ap productOf (as-first x y z k .0)) s cs a j 0 lt (omega arith) ∙ sym (zero .product) in
     let site =
     m .site ∙ ap (λ (p : Parts). siteAt (p .four) 0) e
-    ∙ four-alike kinds (λ o. siteAt o 0) (λ x y z k. as-first x y z k .1) s cs a j 0 lt (omega arith) ∙ sym (zero .site) in
-    let time = time-alike kinds t s ds b one in
-    file-accepted ownChecks kinds exact t _ _ ds b
+    ∙ four-alike baseFormat (λ o. siteAt o 0) (λ x y z k. as-first x y z k .1) s cs a j 0 lt (omega arith) ∙ sym (zero .site) in
+    let time = time-alike baseFormat t s ds b one in
+    file-accepted baseChecks baseFormat exact t _ _ ds b
     ∙ (λ i. O.File (record { product = product i; time = time i; site = site i; cuts = length ds }))
 
 -- two files with the same section 1, the same first cut and as many cuts open alike

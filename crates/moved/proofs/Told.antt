@@ -12,9 +12,9 @@ use Rattle.sections.specs.Verdict.{noCut}
 use Rattle.sections.specs.Parts.{binsIn, raysIn, gridAt}
 use Rattle.sections.specs.declared.Cut.{Cut}
 use Rattle.sections.proofs.Alike.{field-alike, bins-alike, rays-alike, grid-alike, parameter-alike}
-use Rattle.layout.specs.Parts.{productOf, productIn, greatestIn, dataAt, levelsIn}
-use Rattle.layout.specs.Accepted.{kinds, Accepted}
-use Rattle.layout.proofs.Alike.{site-alike, greatest-alike, data-alike}
+use Rattle.base_format.specs.Parts.{productOf, productIn, greatestIn, dataAt, levelsIn}
+use Rattle.base_format.specs.Accepted.{baseFormat, Accepted}
+use Rattle.base_format.proofs.Alike.{site-alike, greatest-alike, data-alike}
 use Rattle.stretches.specs.Call.{scaleOf, listed}
 use Rattle.cuts.specs.Bins.{stretchesIn}
 use Rattle.files.specs.File.{Parts, partsAt, Whole, firstFour}
@@ -37,7 +37,7 @@ pub record Told (s : List ℕ) (c : Cut) (p : Parts) : Type 0 where
   pub levels-are : levelsIn s c ≡ levelsBy p
   pub stretches-are : (t : ℤ) (ray bin : ℕ) → stretchesIn s c t ray bin ≡ stretchesBy p t ray bin
 
-told : (s : List ℕ) (c : Cut) (first : List ℕ) → Whole kinds first (partsAt s c) → Told s c (partsAt s c)
+told : (s : List ℕ) (c : Cut) (first : List ℕ) → Whole baseFormat first (partsAt s c) → Told s c (partsAt s c)
 unfolding binsIn raysIn productIn greatestIn levelsIn stretchesIn
 told s c first w =
     let p = partsAt s c in
@@ -66,4 +66,4 @@ told s c first w =
     }
 
 pub told-at : (s : List ℕ) (cs : List Cut) → Accepted s cs → (i : ℕ) → i < length cs → Told s (getD cs i noCut) (partsAt s (getD cs i noCut))
-told-at s cs a i lt = told s (getD cs i noCut) (firstFour (map (partsAt s) cs)) (whole-at kinds s cs a i lt)
+told-at s cs a i lt = told s (getD cs i noCut) (firstFour (map (partsAt s) cs)) (whole-at baseFormat s cs a i lt)

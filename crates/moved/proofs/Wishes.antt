@@ -11,8 +11,8 @@ use lib.ListN.{length, getD, take, length-map, List·getD-map}
 use Rattle.sections.specs.Accepted.{sectionAt}
 use Rattle.sections.specs.Verdict.{noCut}
 use Rattle.sections.specs.declared.Cut.{Cut}
-use Rattle.layout.specs.Accepted.{kinds, Accepted}
-use Rattle.layout.proofs.First.{regular}
+use Rattle.base_format.specs.Accepted.{baseFormat, Accepted}
+use Rattle.base_format.proofs.First.{regular}
 use Rattle.cuts.specs.Bins.{stretchesIn}
 use Rattle.files.specs.File.{Is, Parts, partsAt, Leading, File}
 use Rattle.files.specs.Smaller.{chosen, cutsAfter, assembled}
@@ -88,15 +88,15 @@ smaller s cs w a some =
     let numbers = chosen w (countFrom 0 (length cs)) in
     let all : cs ≡ map (λ j. getD cs j noCut) (countFrom 0 (length cs)) = by-number cs cs 0 (λ i. ap (λ (n : ℕ). getD cs n noCut) (sym (zero-add i))) in
     let chose : few ≡ map (λ j. getD cs j noCut) numbers = ap (chosen w) all ∙ chosen-map (λ j. getD cs j noCut) w (countFrom 0 (length cs)) in
-    let file = file-of kinds s cs a in
+    let file = file-of baseFormat s cs a in
     let sub : Some qs ps = subst (λ (x : List Parts). Some x ps) (chosen-map (partsAt s) w cs) (chosen-some w ps) in
     let n = length-map few (partsAt s) in
     let t = smallerOf s cs w in
     let same-file : assembled (file .leading .zero) (file .leading .one) (cutsAfter [] qs) ≡ t =
     (λ i. assembled (sym (zero-is (file .leading)) i) (sym (one-is (file .leading)) i) (cutsAfter [] qs)) in
-    let made : File kinds t qs = subst (λ (x : List ℕ). File kinds x qs) same-file
-    (smaller-file kinds s ps qs file sub regular (omega arith)) in
-    let k = of-file kinds t qs made in
+    let made : File baseFormat t qs = subst (λ (x : List ℕ). File baseFormat x qs) same-file
+    (smaller-file baseFormat s ps qs file sub regular (omega arith)) in
+    let k = of-file baseFormat t qs made in
     let ds = k .cs in
     let same : length few ≡ length numbers = ap length chose ∙ length-map numbers (λ j. getD cs j noCut) in
     let count : length ds ≡ length numbers = sym (length-map ds (partsAt t)) ∙ ap length (k .are) ∙ n ∙ same in
@@ -115,7 +115,7 @@ smaller s cs w a some =
     record {
       ds = ds;
       accepted = k .accepted;
-      no-longer = subst (λ (x : List ℕ). length x ≤ length s) same-file (smaller-short kinds s ps qs file sub regular (omega arith));
+      no-longer = subst (λ (x : List ℕ). length x ≤ length s) same-file (smaller-short baseFormat s ps qs file sub regular (omega arith));
       count = count;
       opens =
           same-open s t cs ds a (k .accepted) (getD numbers 0 0) (omega arith) (let x = numbers-few w 0 (length cs) 0 (omega arith) in omega arith) (here 0 (omega arith))
@@ -137,11 +137,11 @@ pub record Rescued (ps : List Parts) (t : List ℕ) : Type 0 where
   pub are : map (partsAt t) ds ≡ ps
   pub stretches : (i : ℕ) → i < length ds → (x : ℤ) (ray bin : ℕ) → stretchesIn t (getD ds i noCut) x ray bin ≡ stretchesBy (getD ps i (partsAt t noCut)) x ray bin
 
-pub rescued : (s : List ℕ) (ps : List Parts) (left : List ℕ) (a : Leading kinds s ps left) → 1 ≤ length ps → length ps ≤ 64 → length (a .cuts) ≤ 8388567
+pub rescued : (s : List ℕ) (ps : List Parts) (left : List ℕ) (a : Leading baseFormat s ps left) → 1 ≤ length ps → length ps ≤ 64 → length (a .cuts) ≤ 8388567
     → Rescued ps (assembled (a .zero) (a .one) (a .cuts))
 rescued s ps left a some few small =
     let t = assembled (a .zero) (a .one) (a .cuts) in
-    let k = of-file kinds t ps (assembled-file kinds s ps left a some few small) in
+    let k = of-file baseFormat t ps (assembled-file baseFormat s ps left a some few small) in
     record {
       ds = k .cs;
       accepted = k .accepted;

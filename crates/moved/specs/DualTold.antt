@@ -4,7 +4,7 @@ use Rattle.rules.specs.Rules.{field}
 use Rattle.rules.specs.Fields.{binsAt}
 use Rattle.scaled.specs.Scaled.{cellOf}
 use Rattle.scaled.specs.declared.Cell.{Cell}
-use Rattle.duallayout.specs.Fields.{referenceAt, binaryAt, decimalAt, widthAt}
+use Rattle.dual_format.specs.Fields.{referenceAt, binaryAt, decimalAt, widthAt}
 use Rattle.files.specs.File.{Parts}
 
 -- the cell of bin b of ray r, and what it tells

@@ -6,7 +6,7 @@ use lib.IntN.{ℤ}
 use Rattle.rules.specs.Fields.{binsAt, raysAt, parameterAt, greatestAt}
 use Rattle.runs.specs.Run.{levels}
 use Rattle.values.specs.declared.Product.{Product}
-use Rattle.layout.specs.Parts.{productOf}
+use Rattle.base_format.specs.Parts.{productOf}
 use Rattle.stretches.specs.Stretch.{Entry}
 use Rattle.stretches.specs.Call.{scaleOf, listed}
 use Rattle.files.specs.File.{Parts}

@@ -10,7 +10,7 @@ use Rattle.values.specs.Reading.{readingOf}
 use Rattle.sections.specs.Refusal.{refuse}
 use Rattle.sections.specs.declared.Why.the-variants.{Argument, Room}
 use Rattle.sections.specs.Parts.{binsIn, raysIn}
-use Rattle.layout.specs.Parts.{productIn, levelIn}
+use Rattle.base_format.specs.Parts.{productIn, levelIn}
 use Rattle.sections.specs.declared.Cut.{Cut}
 use Rattle.stretches.specs.Stretch.{perEntry}
 use Rattle.stretches.specs.Call.{answerOf, rightT, rightPoint}

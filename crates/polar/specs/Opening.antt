@@ -7,8 +7,8 @@ use Rattle.octets.specs.Octets.{signed}
 use Rattle.rules.specs.Rules.{field}
 use Rattle.rules.specs.Fields.{siteAt}
 use Rattle.sections.specs.Parts.{timeOf, gridAt}
-use Rattle.layout.specs.Parts.{productIn}
-use Rattle.layout.specs.Verdict.{verdict}
+use Rattle.base_format.specs.Parts.{productIn}
+use Rattle.base_format.specs.Verdict.{verdict}
 use Rattle.sections.specs.declared.Cut.{Cut}
 use Rattle.calls.specs.Cuts.{onFile, onCut}
 use Rattle.polar.specs.declared.Summary.{Summary}

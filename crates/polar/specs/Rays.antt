@@ -14,8 +14,8 @@ use Rattle.values.specs.declared.Reading.the-variants as R
 use Rattle.sections.specs.Refusal.{refuse}
 use Rattle.sections.specs.declared.Why.the-variants.{Argument, Room}
 use Rattle.sections.specs.Parts.{binsIn, raysIn}
-use Rattle.layout.specs.Parts.{productIn, levelIn}
-use Rattle.layout.specs.Verdict.{verdict}
+use Rattle.base_format.specs.Parts.{productIn, levelIn}
+use Rattle.base_format.specs.Verdict.{verdict}
 use Rattle.sections.specs.declared.Cut.{Cut}
 use Rattle.cuts.specs.Bins.{rayIn}
 use Rattle.calls.specs.Cuts.{onCut, cutIn, ifWritten}

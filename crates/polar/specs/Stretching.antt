@@ -7,7 +7,7 @@ use lib.IntN.{ℤ, pos}
 use Rattle.sections.specs.Refusal.{refuse}
 use Rattle.sections.specs.declared.Why.the-variants.{Argument, Room}
 use Rattle.sections.specs.Parts.{binsIn, raysIn}
-use Rattle.layout.specs.Verdict.{verdict}
+use Rattle.base_format.specs.Verdict.{verdict}
 use Rattle.sections.specs.declared.Cut.{Cut}
 use Rattle.stretches.specs.Stretch.{perEntry}
 use Rattle.stretches.specs.Call.{houseThreshold, answerOf, outOf, rightT, rightPoint}

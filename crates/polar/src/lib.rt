@@ -18,8 +18,8 @@ ghost use Prim.Native.Nat.{min};
 ghost use lib.ListN.{length};
 ghost use Rattle.runs.specs.Lent.{front};
 ghost use Rattle.values.specs.Ray.{marksOf, valuesOf};
-ghost use Rattle.layout.specs.Parts.{productIn};
-ghost use Rattle.layout.specs.Good.{GoodCut};
+ghost use Rattle.base_format.specs.Parts.{productIn};
+ghost use Rattle.base_format.specs.Good.{GoodCut};
 ghost use Rattle.stretches.specs.Call.{outOf};
 ghost use Rattle.cuts.specs.Bins.{rayIn, stretchesIn};
 ghost use Rattle.calls.specs.Cuts.{ifWritten};
@@ -70,7 +70,7 @@ fn summary_of(file: &[u8], n: usize, c: Cut) -> Summary
     ensures { λ r. ⌜ r ≡ summaryOf (now (file .entry)) n c ⌝ }
 {
     let section4 = c.section4;
-    let product = layout::product_in(file, c);
+    let product = base_format::product_in(file, c);
     let time = sections::time_of(file);
     let site = rules::field16(file, section4, 29);
     Summary {
@@ -240,7 +240,7 @@ fn bin_value_on(file: &[u8], c: Cut, ray: usize, bin: usize) -> BinAnswer
             place: 0,
         });
     }
-    let product = layout::product_in(file, c);
+    let product = base_format::product_in(file, c);
     bin_of(values::reading_of(product, cuts::level_in(file, c, ray, bin)))
 }
 

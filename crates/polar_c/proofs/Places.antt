@@ -6,14 +6,14 @@ use mathlib.Core.Bool.{Bool, true, false, cond}
 use native.Mathlib.Omega.{arith}
 use lib.Dec.{ltb}
 use lib.ListN.{length, getD}
-use Rattle.sections.specs.Checks.{Own}
+use Rattle.sections.specs.Checks.{FormatChecks}
 use Rattle.sections.specs.Verdict.{Verdict, accepted, refused, verdictBy, noCut}
 use Rattle.sections.specs.declared.Cut.{Cut}
 use Rattle.sections.proofs.Inside.{OwnAt, refused-inside}
-use Rattle.layout.specs.Checks as L
-use Rattle.layout.proofs.Own as L′
-use Rattle.duallayout.specs.Checks as D
-use Rattle.duallayout.proofs.Own as D′
+use Rattle.base_format.specs.Checks as L
+use Rattle.base_format.proofs.Says as L′
+use Rattle.dual_format.specs.Checks as D
+use Rattle.dual_format.proofs.Says as D′
 use Rattle.sections.specs.Refusal.{refuse}
 use Rattle.sections.specs.declared.Refusal.{Refusal}
 use Rattle.sections.specs.declared.Why.the-variants.{Argument}
@@ -25,7 +25,7 @@ use Rattle.dualpol.specs.Answers as A
 use Rattle.dualpol.specs.declared.DualCut.the-variants as E
 
 -- a call on a cut of a file of any format, whose answers other than refusals are no refusals
-module _ (own : Own) (own-at : OwnAt own) {R : Type 0} (Refused : Refusal → R) (same : (p q : Refusal) → Refused p ≡ Refused q → p ≡ q)
+module _ (own : FormatChecks) (own-at : OwnAt own) {R : Type 0} (Refused : Refusal → R) (same : (p q : Refusal) → Refused p ≡ Refused q → p ≡ q)
     (some : Cut → R) (other : (c : Cut) (why : Refusal) → some c ≡ Refused why → ⊥) where
   none-inside : (b : Bool) (c : Cut) (why : Refusal) (n : ℕ) → cond b (some c) (Refused (refuse Argument 0)) ≡ Refused why → why .place ≤ n
   unfolding refuse
@@ -46,11 +46,11 @@ module _ (own : Own) (own-at : OwnAt own) {R : Type 0} (Refused : Refusal → R)
 pub cut-inside : (s : List ℕ) (i : ℕ) (why : Refusal) → cutAnswer s i ≡ C.Refused why → why .place ≤ length s
 unfolding cutAnswer
 cut-inside s =
-    ask-inside L.ownChecks L′.own-at C.Refused (λ p q e. cc e) (λ c. C.Cut (infoOf s c))
+    ask-inside L.baseChecks L′.own-at C.Refused (λ p q e. cc e) (λ c. C.Cut (infoOf s c))
     (λ c why e. let z : _≡_ {A = ℕ} 0 1 = cc e in omega arith) s
 
 pub dual-cut-inside : (s : List ℕ) (i : ℕ) (why : Refusal) → A.cutAnswer s i ≡ E.Refused why → why .place ≤ length s
 unfolding A.cutAnswer
 dual-cut-inside s =
-    ask-inside D.ownChecks D′.own-at E.Refused (λ p q e. cc e) (λ c. E.Cut (gridAt s (c .section3)))
+    ask-inside D.dualChecks D′.own-at E.Refused (λ p q e. cc e) (λ c. E.Cut (gridAt s (c .section3)))
     (λ c why e. let z : _≡_ {A = ℕ} 0 1 = cc e in omega arith) s

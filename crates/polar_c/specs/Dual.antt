@@ -8,7 +8,7 @@ use lib.Ieee.{Float}
 use Rattle.sections.specs.Refusal.{numberOf}
 use Rattle.dualpol.specs.Answers.{openAnswer, cutAnswer, binAnswer, RightIn}
 use Rattle.calls.specs.Cuts.{cutAt}
-use Rattle.duallayout.specs.Verdict.{verdict}
+use Rattle.dual_format.specs.Verdict.{verdict}
 use Rattle.dualpol.specs.declared.DualOpened.{DualOpened}
 use Rattle.dualpol.specs.declared.DualOpened.the-variants as O
 use Rattle.dualpol.specs.declared.DualCut.{DualCut}

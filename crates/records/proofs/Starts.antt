@@ -15,8 +15,8 @@ use Rattle.index.specs.Pace.{dataIn, Along, Going}
 use Rattle.index.proofs.Records.{hand-first}
 use Rattle.sections.specs.Parts.{binsIn, raysIn}
 use Rattle.sections.specs.declared.Cut.{Cut}
-use Rattle.layout.specs.Parts.{dataAt, greatestIn}
-use Rattle.layout.specs.Good.{GoodCut}
+use Rattle.base_format.specs.Parts.{dataAt, greatestIn}
+use Rattle.base_format.specs.Good.{GoodCut}
 use Rattle.cuts.proofs.Places.{greatest-small, data-opens, all-levels, few-bins, ray-inside}
 use borrow.Author.Tests.{lt-ltb, le-ltb}
 use Rattle.sections.specs.Refusal.{refuse}

@@ -10,7 +10,7 @@ use Rattle.index.specs.Index.{records}
 use Rattle.index.specs.Pace.{dataIn, Going}
 use Rattle.sections.specs.Parts.{binsIn}
 use Rattle.sections.specs.declared.Cut.{Cut}
-use Rattle.layout.specs.Parts.{greatestIn}
+use Rattle.base_format.specs.Parts.{greatestIn}
 use Rattle.cuts.specs.Records.{recordsIn}
 use Rattle.calls.specs.Cuts.{ifWritten}
 use Rattle.records.specs.Records.{buildAnswer, rowAfter}

@@ -7,9 +7,9 @@ use Rattle.index.specs.declared.RayRecord.{RayRecord}
 use Rattle.sections.specs.Parts.{binsIn, raysIn}
 use Rattle.sections.specs.declared.Cut.{Cut}
 use Rattle.sections.specs.declared.Refusal.{Refusal}
-use Rattle.layout.specs.Parts.{dataAt, greatestIn}
-use Rattle.layout.specs.Checks.{ownChecks, anyDataChecks}
-use Rattle.layout.specs.Accepted.{kinds, anyDataKinds}
+use Rattle.base_format.specs.Parts.{dataAt, greatestIn}
+use Rattle.base_format.specs.Checks.{baseChecks, anyDataChecks}
+use Rattle.base_format.specs.Accepted.{baseFormat, anyDataFormat}
 use Rattle.calls.specs.Reasons.{Reason, CutReason, Filling}
 
 -- "Building with fewer records than rays: 11"
@@ -17,7 +17,7 @@ abbrev pub BuildFault : List ℕ → ℕ → Cut → Refusal → Type 0
 BuildFault s room = Filling (λ c. ⊥) (λ c. room < raysIn s c)
 
 abbrev pub BuildReasons : List ℕ → ℕ → ℕ → Refusal → Type 0
-BuildReasons s i room = Reason ownChecks kinds s i (BuildFault s room)
+BuildReasons s i room = Reason baseChecks baseFormat s i (BuildFault s room)
 
 -- "13, for a record whose offset lies outside the data, whose octet there exceeds V, whose earlier bins reach the run's length, or whose data ends before Nb bins"
 pub data Unfit (v nb : ℕ) (d : List ℕ) (rec : RayRecord) : Type 0 where
@@ -32,4 +32,4 @@ FromFault s ray room rec c = CutReason c (raysIn s c ≤ ray) (room < binsIn s c
 
 -- "every file check but 8"
 abbrev pub FromReasons : List ℕ → ℕ → ℕ → ℕ → RayRecord → Refusal → Type 0
-FromReasons s i ray room rec = Reason anyDataChecks anyDataKinds s i (FromFault s ray room rec)
+FromReasons s i ray room rec = Reason anyDataChecks anyDataFormat s i (FromFault s ray room rec)

@@ -11,8 +11,8 @@ use Rattle.index.specs.declared.RayRecord.{RayRecord}
 use Rattle.values.specs.Ray.{marksOf, valuesOf}
 use Rattle.sections.specs.Parts.{binsIn, raysIn}
 use Rattle.sections.specs.declared.Cut.{Cut}
-use Rattle.layout.specs.Parts.{productIn}
-use Rattle.layout.specs.Verdict.{verdict, anyDataVerdict}
+use Rattle.base_format.specs.Parts.{productIn}
+use Rattle.base_format.specs.Verdict.{verdict, anyDataVerdict}
 use Rattle.sections.specs.Refusal.{refuse}
 use Rattle.sections.specs.declared.Why.the-variants.{Argument, Room, Record}
 use Rattle.calls.specs.Cuts.{onCut, cutIn, cutAnyData, ifWritten}

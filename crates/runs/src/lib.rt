@@ -1,5 +1,5 @@
 // Template 7.200, reading: octets to levels under a greatest level V, by document 01's "Run-length rule".
-// specs/Run.antt holds the one definition of decoding, `levels`. Nothing stands below; the crates `packing` (writing), `layout` (a
+// specs/Run.antt holds the one definition of decoding, `levels`. Nothing stands below; the crates `packing` (writing), `base_format` (a
 // file's data), `stretches` (the list, run by run) and `polar` (the calls of a file) stand above and go by `levels`, `gives` and their laws.
 ghost use mathlib.Core.Bool.{true};
 ghost use mathlib.Core.Path.{_≡_};

@@ -1,6 +1,6 @@
 // Simple packing: the number that a cell of a dual-polarisation file tells, from the cell's own number Z and section 5's R, E and D. It is
 // worked out by one sum and one division of 64-bit floats, and its distance from the exact number is promised over whole numbers.
-// Stands on `fraction`, the laws of rounding. Above it stand `duallayout`, the checks of a dual-polarisation file, and `dualpol`, its calls.
+// Stands on `fraction`, the laws of rounding. Above it stand `dual_format`, the checks of a dual-polarisation file, and `dualpol`, its calls.
 ghost use mathlib.Core.Path.{_≡_};
 ghost use mathlib.Core.Bool.{true};
 ghost use mathlib.Core.Logic.{_⊎_};

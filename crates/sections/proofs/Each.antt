@@ -6,17 +6,17 @@ use mathlib.Core.List.{List, _∷_}
 use native.Mathlib.Omega.{arith}
 use native.Mathlib.Nat.{not-suc-le-zero, le-of-suc-le-suc}
 use lib.ListN.{length, getD}
-use Rattle.sections.specs.Checks.{Own}
+use Rattle.sections.specs.Checks.{FormatChecks}
 use Rattle.sections.specs.declared.Context.{Context}
 use Rattle.sections.specs.Refused.{AllHold}
 use Rattle.sections.specs.Verdict.{endOf, noCut}
-use Rattle.sections.specs.Accepted.{Kinds, Body, Cuts, none, own, shared, PastZero, AcceptedBy, sectionAt}
+use Rattle.sections.specs.Accepted.{Format, Body, Cuts, none, new-3, same-3, AfterZero, AcceptedBy, sectionAt}
 use Rattle.sections.specs.declared.Cut.{Cut}
 use Rattle.sections.proofs.There.{AllThere, Known, there}
-use Rattle.sections.proofs.Own.{Says}
+use Rattle.sections.proofs.Says.{Says}
 
 -- the checks of a cut's sections hold, by their places
-pub record Checked (o : Own) (s : List ℕ) (x : Context) (s7 : ℕ) : Type 0 where
+pub record Checked (o : FormatChecks) (s : List ℕ) (x : Context) (s7 : ℕ) : Type 0 where
   pub three : AllHold (o s x (x .section3) 3)
   pub five : AllHold (o s x (x .section5) 5)
   pub seven : AllHold (o s x s7 7)
@@ -24,11 +24,11 @@ pub record Checked (o : Own) (s : List ℕ) (x : Context) (s7 : ℕ) : Type 0 wh
 abbrev pub contextFor : ℕ → ℕ → ℕ → ℕ → Context
 contextFor first s3 s4 s5 = record { previous = 0; cuts = 0; first = first; section3 = s3; section4 = s4; section5 = s5 }
 
-pub checked : (o : Own) (kinds : Kinds) → Says o kinds → (s : List ℕ) (first s3 at : ℕ) (c : Cut) (next : ℕ) → AllThere s s3 → kinds .Three (sectionAt s s3)
-    → (b : Body kinds s (endOf s) first s3 at c next) → Checked o s (contextFor first s3 at (b .s5)) (b .s7)
-checked o kinds says s first s3 at c next h three b =
+pub checked : (o : FormatChecks) (format : Format) → Says o format → (s : List ℕ) (first s3 at : ℕ) (c : Cut) (next : ℕ) → AllThere s s3 → format .Three (sectionAt s s3)
+    → (b : Body format s (endOf s) first s3 at c next) → Checked o s (contextFor first s3 at (b .s5)) (b .s7)
+checked o format says s first s3 at c next h three b =
     let x = contextFor first s3 at (b .s5) in
-    let known : Known kinds s at s3 = record { long4 = says .four-long _ _ _ (b .four-is); three = three } in
+    let known : Known format s at s3 = record { long4 = says .four-long _ _ _ (b .four-is); three = three } in
     record {
       three = says .three s x s3 h .1 three;
       five = says .five s x (b .s5) known (there (omega arith) (b .five)) .1 (b .five-is);
@@ -36,23 +36,23 @@ checked o kinds says s first s3 at c next h three b =
     }
 
 -- a property of every cut from its section 4 on
-abbrev pub OfBodies : Kinds → List ℕ → (Cut → Type 0) → Type 0
-OfBodies kinds s P = (first s3 at : ℕ) (c : Cut) (next : ℕ) → AllThere s s3 → kinds .Three (sectionAt s s3) → Body kinds s (endOf s) first s3 at c next → P c
+abbrev pub OfBodies : Format → List ℕ → (Cut → Type 0) → Type 0
+OfBodies format s P = (first s3 at : ℕ) (c : Cut) (next : ℕ) → AllThere s s3 → format .Three (sectionAt s s3) → Body format s (endOf s) first s3 at c next → P c
 
-module _ (kinds : Kinds) (s : List ℕ) (P : Cut → Type 0) (of-body : OfBodies kinds s P) where
-  each-later : (first s3 at : ℕ) (cs : List Cut) → AllThere s s3 → kinds .Three (sectionAt s s3)
-      → Cuts kinds s (endOf s) first s3 at cs
+module _ (format : Format) (s : List ℕ) (P : Cut → Type 0) (of-body : OfBodies format s P) where
+  each-later : (first s3 at : ℕ) (cs : List Cut) → AllThere s s3 → format .Three (sectionAt s s3)
+      → Cuts format s (endOf s) first s3 at cs
       → (i : ℕ) → i < length cs → P (getD cs i noCut)
   each-later first s3 at cs h three none i lt = absurd (not-suc-le-zero lt)
-  each-later first s3 at cs h three (own {b = b} {next = next} {c = c} here mine body r) zero lt =
+  each-later first s3 at cs h three (new-3 {b = b} {next = next} {c = c} here mine body r) zero lt =
       of-body first at b c next (there (omega arith) here) mine body
-  each-later first s3 at cs h three (own {b = b} {next = next} {cs = ds} here mine body r) (suc i) lt =
+  each-later first s3 at cs h three (new-3 {b = b} {next = next} {cs = ds} here mine body r) (suc i) lt =
       each-later first at next ds (there (omega arith) here) mine r i (le-of-suc-le-suc lt)
-  each-later first s3 at cs h three (shared {next = next} {c = c} body r) zero lt = of-body first s3 at c next h three body
-  each-later first s3 at cs h three (shared {next = next} {cs = ds} body r) (suc i) lt =
+  each-later first s3 at cs h three (same-3 {next = next} {c = c} body r) zero lt = of-body first s3 at c next h three body
+  each-later first s3 at cs h three (same-3 {next = next} {cs = ds} body r) (suc i) lt =
       each-later first s3 next ds h three r i (le-of-suc-le-suc lt)
 
-  each-past : (cs : List Cut) → PastZero kinds s (endOf s) cs → (i : ℕ) → i < length cs → P (getD cs i noCut)
+  each-past : (cs : List Cut) → AfterZero format s (endOf s) cs → (i : ℕ) → i < length cs → P (getD cs i noCut)
   each-past cs p i lt = rw (p .are) (go i (rw (p .are) at lt))
     where
       all : AllThere s (p .s3)
@@ -62,5 +62,5 @@ module _ (kinds : Kinds) (s : List ℕ) (P : Cut → Type 0) (of-body : OfBodies
       go zero h = of-body (p .s4) (p .s3) (p .s4) (p .cut) (p .next) all (p .three-is) (p .body)
       go (suc i) h = each-later (p .s4) (p .s3) (p .next) (p .later) all (p .three-is) (p .cuts) i (le-of-suc-le-suc h)
 
-  pub each-cut : (cs : List Cut) → AcceptedBy kinds s cs → (i : ℕ) → i < length cs → P (getD cs i noCut)
+  pub each-cut : (cs : List Cut) → AcceptedBy format s cs → (i : ℕ) → i < length cs → P (getD cs i noCut)
   each-cut cs a i lt = each-past cs (a .past) i lt

@@ -11,17 +11,17 @@ use lib.Dec.{leb}
 use Rattle.rules.specs.Rules.{meetsAll, rules0}
 use Rattle.rules.proofs.Chains.{and-true-both}
 use Rattle.sections.specs.Refusal.{numberOf, refuse}
-use Rattle.sections.specs.Checks.{Own}
+use Rattle.sections.specs.Checks.{FormatChecks}
 use Rattle.sections.specs.Verdict.{accepted, refused, sections, endOf, sized, verdictBy}
 use Rattle.sections.specs.History.{cutsOf}
-use Rattle.sections.specs.Accepted.{Kinds, AcceptedBy, PastZero}
+use Rattle.sections.specs.Accepted.{Format, AcceptedBy, AfterZero}
 use Rattle.sections.specs.Refused.{RightSize, RefusedBy, size, head, section, RefusedAt, first}
 use Rattle.sections.specs.declared.Cut.{Cut}
 use Rattle.sections.specs.declared.Refusal.{Refusal}
 use Rattle.sections.specs.declared.Why.the-variants.{FileSize, Section0}
 use Rattle.sections.specs.Exact.{Exact}
 use Rattle.sections.proofs.Sections.{accepted-same, refused-same, refused-not-accepted, stopped, refuses, through, accepts as sections-accept, count-cuts}
-use Rattle.sections.proofs.Own.{Says}
+use Rattle.sections.proofs.Says.{Says}
 use Rattle.sections.proofs.Grammar.{past-off, past-on}
 
 -- ── the size ──
@@ -38,7 +38,7 @@ size-right s r = rw (le-leb 20 (length s) (r .small), le-leb (length s) 8388608 
 
 -- ── the verdict by its three parts ──
 
-module _ (o : Own) (s : List ℕ) where
+module _ (o : FormatChecks) (s : List ℕ) where
   pub verdict-sections : RightSize s → meetsAll s 0 (rules0 (length s)) ≡ true → verdictBy o s ≡ sections o (length s) s (endOf s) [] 16
   unfolding verdictBy
   verdict-sections r h = rw (size-right s r, h)
@@ -60,7 +60,7 @@ not-right s n = go (sized s) refl
 
 -- ── refused exactly so ──
 
-refused-by : (o : Own) (s : List ℕ) (r : Refusal) (t u : Bool) → sized s ≡ t → meetsAll s 0 (rules0 (length s)) ≡ u → verdictBy o s ≡ refused r → RefusedBy o s r
+refused-by : (o : FormatChecks) (s : List ℕ) (r : Refusal) (t u : Bool) → sized s ≡ t → meetsAll s 0 (rules0 (length s)) ≡ u → verdictBy o s ≡ refused r → RefusedBy o s r
 refused-by o s r false u p q h =
     let e : (refuse FileSize 0) ≡ r = refused-same (refuse FileSize 0) r (sym (verdict-size o s p) ∙ h) in
     rw (sym e) (size (λ z. false≢true (sym p ∙ size-right s z)))
@@ -74,10 +74,10 @@ refused-by o s r true true p q h =
     let st = stopped o (length s) s (endOf s) [] 16 r (omega arith) (omega arith) (omega arith) (sym (verdict-sections o s z q) ∙ h) in
     section z q (st .passed first) (st .fails)
 
-pub refused-only : (o : Own) (s : List ℕ) (r : Refusal) → verdictBy o s ≡ refused r → RefusedBy o s r
+pub refused-only : (o : FormatChecks) (s : List ℕ) (r : Refusal) → verdictBy o s ≡ refused r → RefusedBy o s r
 refused-only o s r h = refused-by o s r (sized s) (meetsAll s 0 (rules0 (length s))) refl refl h
 
-pub refused-all : (o : Own) (s : List ℕ) (r : Refusal) → RefusedBy o s r → verdictBy o s ≡ refused r
+pub refused-all : (o : FormatChecks) (s : List ℕ) (r : Refusal) → RefusedBy o s r → verdictBy o s ≡ refused r
 refused-all o s r (size n) = verdict-size o s (not-right s n)
 refused-all o s r (head z h) = verdict-head o s z h
 refused-all o s r (section {seen = seen} {at = at} z h p fails) =
@@ -85,19 +85,19 @@ refused-all o s r (section {seen = seen} {at = at} z h p fails) =
     verdict-sections o s z h ∙ refuses o s (endOf s) seen at r (omega arith) (omega arith) p fails
 
 -- the same by number and place
-pub refused-at : (o : Own) (s : List ℕ) (r : Refusal) → verdictBy o s ≡ refused r → RefusedAt o s (numberOf (r .why)) (r .place)
+pub refused-at : (o : FormatChecks) (s : List ℕ) (r : Refusal) → verdictBy o s ≡ refused r → RefusedAt o s (numberOf (r .why)) (r .place)
 unfolding refuse
 refused-at o s r h = record { why = r .why; refused = refused-only o s r h; number = refl }
 
 -- one refusal
-pub refused-one : (o : Own) (s : List ℕ) (q r : Refusal) → RefusedBy o s q → RefusedBy o s r → q ≡ r
+pub refused-one : (o : FormatChecks) (s : List ℕ) (q r : Refusal) → RefusedBy o s q → RefusedBy o s r → q ≡ r
 refused-one o s q r a b = refused-same q r (sym (refused-all o s q a) ∙ refused-all o s r b)
 
 -- what a format says of its sections, and its checks, which ask just that
-module _ (o : Own) (kinds : Kinds) (says : Says o kinds) where
+module _ (o : FormatChecks) (format : Format) (says : Says o format) where
   -- ── accepted exactly so ──
 
-  accepted-by : (s : List ℕ) (cs : List Cut) (t u : Bool) → sized s ≡ t → meetsAll s 0 (rules0 (length s)) ≡ u → verdictBy o s ≡ accepted cs → AcceptedBy kinds s cs
+  accepted-by : (s : List ℕ) (cs : List Cut) (t u : Bool) → sized s ≡ t → meetsAll s 0 (rules0 (length s)) ≡ u → verdictBy o s ≡ accepted cs → AcceptedBy format s cs
   accepted-by s cs false u p q h = absurd (refused-not-accepted (refuse FileSize 0) cs (sym (verdict-size o s p) ∙ h))
   accepted-by s cs true false p q h = absurd (refused-not-accepted (refuse Section0 0) cs (sym (verdict-head o s (right-size s p) q) ∙ h))
   accepted-by s cs true true p q h =
@@ -107,17 +107,17 @@ module _ (o : Own) (kinds : Kinds) (says : Says o kinds) where
         small = z .small;
         large = z .large;
         zero = q;
-        past = subst (PastZero kinds s (endOf s)) (sym (t .cuts)) (past-off o kinds says s (endOf s) (omega arith) (t .all) (count-cuts (t .all)) (t .rest));
+        past = subst (AfterZero format s (endOf s)) (sym (t .cuts)) (past-off o format says s (endOf s) (omega arith) (t .all) (count-cuts (t .all)) (t .rest));
       }
 
-  pub accepted-only : (s : List ℕ) (cs : List Cut) → verdictBy o s ≡ accepted cs → AcceptedBy kinds s cs
+  pub accepted-only : (s : List ℕ) (cs : List Cut) → verdictBy o s ≡ accepted cs → AcceptedBy format s cs
   accepted-only s cs h = accepted-by s cs (sized s) (meetsAll s 0 (rules0 (length s))) refl refl h
 
-  pub accepted-all : (s : List ℕ) (cs : List Cut) → AcceptedBy kinds s cs → verdictBy o s ≡ accepted cs
+  pub accepted-all : (s : List ℕ) (cs : List Cut) → AcceptedBy format s cs → verdictBy o s ≡ accepted cs
   unfolding cutsOf
   accepted-all s cs a =
       let small = a .small in
-      let k = past-on o kinds says s (endOf s) (omega arith) cs (a .past) in
+      let k = past-on o format says s (endOf s) (omega arith) cs (a .past) in
       verdict-sections o s (record { small = a .small; large = a .large }) (a .zero)
       ∙ sections-accept o s (endOf s) [] 16 (k .all) (length s) (k .rest) (omega arith) (omega arith) (omega arith)
       ∙ ap accepted (k .all-are)
@@ -125,14 +125,14 @@ module _ (o : Own) (kinds : Kinds) (says : Says o kinds) where
   -- ── either, and only one ──
 
   -- a file has one list of cuts, or one refusal
-  pub accepted-one : (s : List ℕ) (cs ds : List Cut) → AcceptedBy kinds s cs → AcceptedBy kinds s ds → cs ≡ ds
+  pub accepted-one : (s : List ℕ) (cs ds : List Cut) → AcceptedBy format s cs → AcceptedBy format s ds → cs ≡ ds
   accepted-one s cs ds a b = accepted-same cs ds (sym (accepted-all s cs a) ∙ accepted-all s ds b)
 
   -- and never both
-  pub not-both : (s : List ℕ) (cs : List Cut) (r : Refusal) → AcceptedBy kinds s cs → RefusedBy o s r → ⊥
+  pub not-both : (s : List ℕ) (cs : List Cut) (r : Refusal) → AcceptedBy format s cs → RefusedBy o s r → ⊥
   not-both s cs r a b = refused-not-accepted r cs (sym (refused-all o s r b) ∙ accepted-all s cs a)
 
-  pub exact : Exact o kinds
+  pub exact : Exact o format
   exact =
       record {
         refused-only = refused-only o;

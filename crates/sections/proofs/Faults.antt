@@ -6,7 +6,7 @@ use mathlib.Core.Bool.{true, false}
 use native.Mathlib.Omega.{arith}
 use borrow.Author.Tests.{eq-eqb, ne-eqb}
 use Rattle.rules.specs.Fields.{numberAt}
-use Rattle.sections.specs.Checks.{Check, check, Own, framed, roomForCut, closes, sectionChecks, checksAt}
+use Rattle.sections.specs.Checks.{Check, check, FormatChecks, framed, roomForCut, closes, sectionChecks, checksAt}
 use Rattle.sections.specs.declared.Context.{Context}
 use Rattle.sections.specs.Verdict.{firstFault}
 use Rattle.sections.specs.Refused.{AllHold, FirstFails, this, later}
@@ -37,12 +37,12 @@ first-wrong cs r (this e) = rw e
 first-wrong cs r (later {cs = ds} e f) = rw e (first-wrong ds r f)
 
 -- what holds where the checks of a section hold
-pub record Clean (own : Own) (s : List ℕ) (end : ℕ) (x : Context) (at : ℕ) : Type 0 where
+pub record Clean (own : FormatChecks) (s : List ℕ) (end : ℕ) (x : Context) (at : ℕ) : Type 0 where
   pub frame : framed s end x at ≡ true
   pub roomy : roomForCut s x at ≡ true
   pub its-own : AllHold (sectionChecks own s x at (numberAt s at))
 
-module _ (own : Own) (s : List ℕ) (end : ℕ) (x : Context) (at : ℕ) where
+module _ (own : FormatChecks) (s : List ℕ) (end : ℕ) (x : Context) (at : ℕ) where
   pub checks-here : (at ≡ end → ⊥)
       → checksAt own s end x at
       ≡ (check (refuse Frame at) (framed s end x at) ∷ check (refuse CutCount at) (roomForCut s x at) ∷ sectionChecks own s x at (numberAt s at))

@@ -7,7 +7,7 @@ use native.Mathlib.Omega.{arith}
 use lib.Dec.{eqb}
 use lib.ListN.{length}
 use Rattle.sections.specs.Refusal.{refuse}
-use Rattle.sections.specs.Checks.{Check, check, Own, sectionChecks, checksAt}
+use Rattle.sections.specs.Checks.{Check, check, FormatChecks, sectionChecks, checksAt}
 use Rattle.sections.specs.declared.Context.{Context}
 use Rattle.sections.specs.Verdict.{refused, endOf, verdictBy}
 use Rattle.sections.specs.Refused.{FirstFails, this, later, RefusedBy, size, head, section}
@@ -29,10 +29,10 @@ fails-at at a (this e) = a .0
 fails-at at a (later e f) = fails-at at (a .1) f
 
 -- a format whose own checks do so
-abbrev pub OwnAt : Own → Type 0
+abbrev pub OwnAt : FormatChecks → Type 0
 OwnAt own = (s : List ℕ) (x : Context) (at n : ℕ) → AllAt at (own s x at n)
 
-module _ (own : Own) (own-at : OwnAt own) where
+module _ (own : FormatChecks) (own-at : OwnAt own) where
   section-at : (s : List ℕ) (x : Context) (at n : ℕ) → AllAt at (sectionChecks own s x at n)
   unfolding sectionChecks refuse
   section-at s x at n = either (eqb n 1) at _ _ (refl, (refl, tt)) (either (eqb n 6) at _ _ (refl, (refl, tt)) (own-at s x at n))

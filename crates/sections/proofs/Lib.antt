@@ -5,7 +5,7 @@ pub mod Sections
 pub mod There
 pub mod Alike
 pub mod Asks
-pub mod Own
+pub mod Says
 pub mod Grammar
 pub mod Exact
 pub mod Each

@@ -9,7 +9,7 @@ use borrow.Author.Tests.{eqb-true, eqb-false, eq-eqb, ne-eqb}
 use lib.ListN.{length, length-append}
 use lib.Dec.{eqb}
 use Rattle.rules.specs.Fields.{lengthAt}
-use Rattle.sections.specs.Checks.{Own, checksAt}
+use Rattle.sections.specs.Checks.{FormatChecks, checksAt}
 use Rattle.sections.specs.History.{Seen, seenAt, lastSeen, cutsSeen, contextOf, cutsOf}
 use Rattle.sections.specs.Verdict.{accepted, refused, firstFault, ifAccepted, sections}
 use Rattle.sections.specs.Refused.{AllHold, FirstFails, Passed, first, then}
@@ -23,10 +23,10 @@ use Rattle.sections.proofs.Framed.{Framed}
 use Rattle.sections.proofs.Faults.{fine-all, all-fine, wrong-first, first-wrong, fine-framed}
 
 -- what the checks at a place come to
-abbrev pub judgedAt : Own → List ℕ → ℕ → List Seen → ℕ → Judged
+abbrev pub judgedAt : FormatChecks → List ℕ → ℕ → List Seen → ℕ → Judged
 judgedAt own s end seen at = firstFault (checksAt own s end (contextOf seen at) at)
 
-module _ (own : Own) (f : ℕ) (s : List ℕ) (end : ℕ) (seen : List Seen) (at : ℕ) where
+module _ (own : FormatChecks) (f : ℕ) (s : List ℕ) (end : ℕ) (seen : List Seen) (at : ℕ) where
   pub sections-refused : (r : Refusal) → judgedAt own s end seen at ≡ Refused r → sections own (suc f) s end seen at ≡ refused r
   unfolding sections
   sections-refused r h =
@@ -51,26 +51,26 @@ module _ (own : Own) (f : ℕ) (s : List ℕ) (end : ℕ) (seen : List Seen) (at
       h
       ∙ rw (ne-eqb at end ne)
 
-pub no-fuel : (own : Own) (s : List ℕ) (end : ℕ) (seen : List Seen) (at : ℕ) → sections own zero s end seen at ≡ refused (refuse Frame at)
+pub no-fuel : (own : FormatChecks) (s : List ℕ) (end : ℕ) (seen : List Seen) (at : ℕ) → sections own zero s end seen at ≡ refused (refuse Frame at)
 unfolding sections
 no-fuel own s end seen at = refl
 
 -- ── the sections from a place on, to the end ──
 
-pub data Rest (own : Own) (s : List ℕ) (end : ℕ) : List Seen → ℕ → List Seen → Type 0 where
+pub data Rest (own : FormatChecks) (s : List ℕ) (end : ℕ) : List Seen → ℕ → List Seen → Type 0 where
   stop : {seen : List Seen} {at : ℕ} → at ≡ end → AllHold (checksAt own s end (contextOf seen at) at) → Rest own s end seen at seen
   step : {seen all : List Seen} {at : ℕ}
       → (at ≡ end → ⊥) → AllHold (checksAt own s end (contextOf seen at) at)
       → Rest own s end (seenAt s at ∷ seen) (at + lengthAt s at) all → Rest own s end seen at all
 
 -- all of them pass: the cuts are those of the whole history
-pub record Through (own : Own) (s : List ℕ) (end : ℕ) (seen : List Seen) (at : ℕ) (cs : List Cut) : Type 0 where
+pub record Through (own : FormatChecks) (s : List ℕ) (end : ℕ) (seen : List Seen) (at : ℕ) (cs : List Cut) : Type 0 where
   pub all : List Seen
   pub rest : Rest own s end seen at all
   pub cuts : cs ≡ cutsOf all
 
 -- one of them is refused, at a place up to which all pass
-pub record Stopped (own : Own) (s : List ℕ) (end : ℕ) (seen : List Seen) (at : ℕ) (r : Refusal) : Type 0 where
+pub record Stopped (own : FormatChecks) (s : List ℕ) (end : ℕ) (seen : List Seen) (at : ℕ) (r : Refusal) : Type 0 where
   pub before : List Seen
   pub place : ℕ
   pub passed : Passed own s end seen at → Passed own s end before place
@@ -87,7 +87,7 @@ refused-same q r h = cc
 
 -- ── accepted: the sections from here on all pass ──
 
-through-by : (own : Own) (f : ℕ) (s : List ℕ) (end : ℕ) (seen : List Seen) (at : ℕ) (cs : List Cut)
+through-by : (own : FormatChecks) (f : ℕ) (s : List ℕ) (end : ℕ) (seen : List Seen) (at : ℕ) (cs : List Cut)
     → (sections own f s end (seenAt s at ∷ seen) (at + lengthAt s at) ≡ accepted cs → Through own s end (seenAt s at ∷ seen) (at + lengthAt s at) cs)
     → (j : Judged) (t : Bool) → judgedAt own s end seen at ≡ j → eqb at end ≡ t
     → sections own (suc f) s end seen at ≡ accepted cs → Through own s end seen at cs
@@ -105,13 +105,13 @@ through-by own f s end seen at cs go Accepted false e p h =
     let t = go (sym (sections-next own f s end seen at e ne) ∙ h) in
     record { all = t .all; rest = step ne (fine-all (checksAt own s end (contextOf seen at) at) e) (t .rest); cuts = t .cuts }
 
-pub through : (own : Own) (f : ℕ) (s : List ℕ) (end : ℕ) (seen : List Seen) (at : ℕ) (cs : List Cut) → sections own f s end seen at ≡ accepted cs → Through own s end seen at cs
+pub through : (own : FormatChecks) (f : ℕ) (s : List ℕ) (end : ℕ) (seen : List Seen) (at : ℕ) (cs : List Cut) → sections own f s end seen at ≡ accepted cs → Through own s end seen at cs
 through own zero s end seen at cs h = absurd (refused-not-accepted (refuse Frame at) cs (sym (no-fuel own s end seen at) ∙ h))
 through own (suc f) s end seen at cs h =
     through-by own f s end seen at cs (through own f s end (seenAt s at ∷ seen) (at + lengthAt s at) cs) (judgedAt own s end seen at) (eqb at end) refl refl h
 
 -- and back, where there are steps enough
-pub accepts : (own : Own) (s : List ℕ) (end : ℕ) (seen : List Seen) (at : ℕ) (all : List Seen) (f : ℕ)
+pub accepts : (own : FormatChecks) (s : List ℕ) (end : ℕ) (seen : List Seen) (at : ℕ) (all : List Seen) (f : ℕ)
     → Rest own s end seen at all → at ≤ end → end ≤ length s → length s < at + f → sections own f s end seen at ≡ accepted (cutsOf all)
 accepts own s end seen at all zero (stop e h) le in-s few = absurd (omega arith)
 accepts own s end seen at all zero (step ne h r) le in-s few = absurd (omega arith)
@@ -127,7 +127,7 @@ accepts own s end seen at all (suc f) (step ne h r) le in-s few =
 
 -- ── refused: one of them is the first that fails ──
 
-stopped-by : (own : Own) (f : ℕ) (s : List ℕ) (end : ℕ) (seen : List Seen) (at : ℕ) (r : Refusal)
+stopped-by : (own : FormatChecks) (f : ℕ) (s : List ℕ) (end : ℕ) (seen : List Seen) (at : ℕ) (r : Refusal)
     → (Framed s end (contextOf seen at) at → sections own f s end (seenAt s at ∷ seen) (at + lengthAt s at) ≡ refused r
     → Stopped own s end (seenAt s at ∷ seen) (at + lengthAt s at) r)
     → (j : Judged) (t : Bool) → judgedAt own s end seen at ≡ j → eqb at end ≡ t
@@ -152,7 +152,7 @@ stopped-by own f s end seen at r go Accepted false e p h =
       fails = st .fails;
     }
 
-pub stopped : (own : Own) (f : ℕ) (s : List ℕ) (end : ℕ) (seen : List Seen) (at : ℕ) (r : Refusal) → at ≤ end → end ≤ length s → length s < at + f
+pub stopped : (own : FormatChecks) (f : ℕ) (s : List ℕ) (end : ℕ) (seen : List Seen) (at : ℕ) (r : Refusal) → at ≤ end → end ≤ length s → length s < at + f
     → sections own f s end seen at ≡ refused r → Stopped own s end seen at r
 stopped own zero s end seen at r le in-s few h = absurd (omega arith)
 stopped own (suc f) s end seen at r le in-s few h =
@@ -163,13 +163,13 @@ stopped own (suc f) s end seen at r le in-s few h =
     (judgedAt own s end seen at) (eqb at end) refl refl h
 
 -- and back: a place up to which all pass is one that the verdict comes to
-pub record Reached (own : Own) (s : List ℕ) (end : ℕ) (seen : List Seen) (at : ℕ) : Type 0 where
+pub record Reached (own : FormatChecks) (s : List ℕ) (end : ℕ) (seen : List Seen) (at : ℕ) : Type 0 where
   pub fuel : ℕ
   pub same : sections own (length s) s end [] 16 ≡ sections own fuel s end seen at
   pub enough : length s < at + fuel
   pub inside : at ≤ end
 
-reached-on : (own : Own) (s : List ℕ) (end : ℕ) (seen : List Seen) (at f : ℕ) → (at ≡ end → ⊥) → AllHold (checksAt own s end (contextOf seen at) at) → at ≤ end
+reached-on : (own : FormatChecks) (s : List ℕ) (end : ℕ) (seen : List Seen) (at f : ℕ) → (at ≡ end → ⊥) → AllHold (checksAt own s end (contextOf seen at) at) → at ≤ end
     → end ≤ length s → length s < at + f → sections own (length s) s end [] 16 ≡ sections own f s end seen at
     → Reached own s end (seenAt s at ∷ seen) (at + lengthAt s at)
 reached-on own s end seen at zero ne h le in-s few same = absurd (omega arith)
@@ -179,18 +179,18 @@ reached-on own s end seen at (suc f) ne h le in-s few same =
     let long : 5 ≤ lengthAt s at = fr .long in
     record { fuel = f; same = same ∙ sections-next own f s end seen at fine ne; enough = omega arith; inside = fr .reach }
 
-pub reached : (own : Own) (s : List ℕ) (end : ℕ) (seen : List Seen) (at : ℕ) → 16 ≤ end → end ≤ length s → Passed own s end seen at → Reached own s end seen at
+pub reached : (own : FormatChecks) (s : List ℕ) (end : ℕ) (seen : List Seen) (at : ℕ) → 16 ≤ end → end ≤ length s → Passed own s end seen at → Reached own s end seen at
 reached own s end seen at h in-s first = record { fuel = length s; same = refl; enough = omega arith; inside = h }
 reached own s end seen at h in-s (then {seen = old} {at = a} p ne ok) =
     let r = reached own s end old a h in-s p in
     reached-on own s end old a (r .fuel) ne ok (r .inside) in-s (r .enough) (r .same)
 
-refuses-by : (own : Own) (s : List ℕ) (end : ℕ) (seen : List Seen) (at : ℕ) (r : Refusal) (f : ℕ) → at ≤ end → end ≤ length s → length s < at + f
+refuses-by : (own : FormatChecks) (s : List ℕ) (end : ℕ) (seen : List Seen) (at : ℕ) (r : Refusal) (f : ℕ) → at ≤ end → end ≤ length s → length s < at + f
     → judgedAt own s end seen at ≡ Refused r → sections own f s end seen at ≡ refused r
 refuses-by own s end seen at r zero le in-s few h = absurd (omega arith)
 refuses-by own s end seen at r (suc f) le in-s few h = sections-refused own f s end seen at r h
 
-pub refuses : (own : Own) (s : List ℕ) (end : ℕ) (seen : List Seen) (at : ℕ) (r : Refusal) → 16 ≤ end → end ≤ length s → Passed own s end seen at
+pub refuses : (own : FormatChecks) (s : List ℕ) (end : ℕ) (seen : List Seen) (at : ℕ) (r : Refusal) → 16 ≤ end → end ≤ length s → Passed own s end seen at
     → FirstFails r (checksAt own s end (contextOf seen at) at) → sections own (length s) s end [] 16 ≡ refused r
 refuses own s end seen at r h in-s p fails =
     let x = reached own s end seen at h in-s p in

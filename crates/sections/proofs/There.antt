@@ -7,7 +7,7 @@ use lib.ListN.{length, drop, length-take, length-drop, take-append-drop}
 use lib.Seq.{drop-drop}
 use Rattle.octets.proofs.Lies.{Lies}
 use Rattle.rules.specs.Fields.{lengthAt}
-use Rattle.sections.specs.Accepted.{Kinds, Section, sectionAt}
+use Rattle.sections.specs.Accepted.{Format, Section, sectionAt}
 
 pub lies-at : (s : List ℕ) (at : ℕ) → Lies s at (sectionAt s at)
 lies-at s at = record { after = drop (lengthAt s at) (drop at s); from = sym (take-append-drop (lengthAt s at) (drop at s)) }
@@ -17,7 +17,7 @@ abbrev pub AllThere : List ℕ → ℕ → Type 0
 AllThere s at = lengthAt s at ≡ length (sectionAt s at)
 
 -- what is known of the first section 4 and of the section 3 last seen, once they have passed: a 4 has the octets that later ones are compared with
-pub record Known (k : Kinds) (s : List ℕ) (first s3 : ℕ) : Type 0 where
+pub record Known (k : Format) (s : List ℕ) (first s3 : ℕ) : Type 0 where
   pub long4 : 30 ≤ length (sectionAt s first)
   pub three : k .Three (sectionAt s s3)
 

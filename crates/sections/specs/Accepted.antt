@@ -19,7 +19,7 @@ abbrev pub sectionAt : List ℕ → ℕ → List ℕ
 sectionAt s at = take (lengthAt s at) (drop at s)
 
 -- what a format says of its own sections, by their octets
-pub record Kinds : Type 1 where
+pub record Format : Type 1 where
   -- of a 3
   pub Three : (s3 : List ℕ) → Type 0
   -- of a 4 under the section 3 `s3`, in a file whose first section 4 is `first`
@@ -47,7 +47,7 @@ module _ (s : List ℕ) (end : ℕ) where
     pub long : lengthAt s at ≡ 6
     pub rules : Meets s at rules6
 
-module _ (k : Kinds) (s : List ℕ) (end : ℕ) where
+module _ (k : Format) (s : List ℕ) (end : ℕ) where
   -- 4 5 6 7 under the section 3 at `s3`: a cut from its section 4 on
   pub record Body (first s3 at : ℕ) (c : Cut) (next : ℕ) : Type 0 where
     pub s5 : ℕ
@@ -65,13 +65,13 @@ module _ (k : Kinds) (s : List ℕ) (end : ℕ) where
   -- the cuts that follow, under the section 3 last seen, up to the last four octets: each is 3 4 5 6 7, or 4 5 6 7
   pub data Cuts (first : ℕ) : ℕ → ℕ → List Cut → Type 0 where
     none : {s3 : ℕ} → Cuts first s3 end []
-    own : {s3 at b next : ℕ} {c : Cut} {cs : List Cut}
+    new-3 : {s3 at b next : ℕ} {c : Cut} {cs : List Cut}
         → Section s end 3 at b → k .Three (sectionAt s at) → Body first at b c next → Cuts first at next cs → Cuts first s3 at (c ∷ cs)
-    shared : {s3 at next : ℕ} {c : Cut} {cs : List Cut}
+    same-3 : {s3 at next : ℕ} {c : Cut} {cs : List Cut}
         → Body first s3 at c next → Cuts first s3 next cs → Cuts first s3 at (c ∷ cs)
 
   -- 1, then 1 to 64 cuts, then 8; the first cut needs a 3
-  pub record PastZero (cs : List Cut) : Type 0 where
+  pub record AfterZero (cs : List Cut) : Type 0 where
     pub s3 : ℕ
     pub s4 : ℕ
     pub next : ℕ
@@ -87,8 +87,8 @@ module _ (k : Kinds) (s : List ℕ) (end : ℕ) where
     pub are : cs ≡ cut ∷ later
 
 -- an accepted file and its cuts: section 0, and what comes past it, up to the last four octets
-pub record AcceptedBy (k : Kinds) (s : List ℕ) (cs : List Cut) : Type 0 where
+pub record AcceptedBy (k : Format) (s : List ℕ) (cs : List Cut) : Type 0 where
   pub small : 20 ≤ length s
   pub large : length s ≤ 8388608
   pub zero : Meets s 0 (rules0 (length s))
-  pub past : PastZero k s (endOf s) cs
+  pub past : AfterZero k s (endOf s) cs

@@ -44,10 +44,10 @@ abbrev pub checks6 : List ℕ → ℕ → List Check
 checks6 s at = check (refuse SectionLength at) (eqb (lengthAt s at) 6) ∷ check (refuse Field at) (meetsAll s at rules6) ∷ []
 
 -- a format's own: the checks of its sections 3, 4, 5 and 7, by the section's number
-abbrev pub Own : Type 0
-Own = List ℕ → Context → ℕ → ℕ → List Check
+abbrev pub FormatChecks : Type 0
+FormatChecks = List ℕ → Context → ℕ → ℕ → List Check
 
-unfoldable pub sectionChecks : Own → Own
+unfoldable pub sectionChecks : FormatChecks → FormatChecks
 sectionChecks own s x at n =
     cond (eqb n 1) (checks1 s at)
     (cond (eqb n 6) (checks6 s at) (own s x at n))
@@ -57,7 +57,7 @@ unfoldable pub closes : List ℕ → Context → ℕ → Bool
 closes s x at = eqb (x .previous) 7 && meetsAll s at rules8
 
 -- all the checks at a place: of the last four octets, or of the section there
-unfoldable pub checksAt : Own → List ℕ → ℕ → Context → ℕ → List Check
+unfoldable pub checksAt : FormatChecks → List ℕ → ℕ → Context → ℕ → List Check
 checksAt own s end x at =
     cond (eqb at end)
     (check (refuse Frame at) (closes s x at) ∷ [])

@@ -4,21 +4,21 @@ use Prim.Native.Nat.{ℕ}
 use mathlib.Core.Path.{_≡_}
 use mathlib.Core.List.{List}
 use Rattle.sections.specs.Refusal.{numberOf}
-use Rattle.sections.specs.Checks.{Own}
+use Rattle.sections.specs.Checks.{FormatChecks}
 use Rattle.sections.specs.Verdict.{accepted, refused, verdictBy}
-use Rattle.sections.specs.Accepted.{Kinds, AcceptedBy}
+use Rattle.sections.specs.Accepted.{Format, AcceptedBy}
 use Rattle.sections.specs.Refused.{RefusedBy, RefusedAt}
 use Rattle.sections.specs.declared.Cut.{Cut}
 use Rattle.sections.specs.declared.Refusal.{Refusal}
 
-pub record Exact (own : Own) (kinds : Kinds) : Type 0 where
+pub record Exact (own : FormatChecks) (format : Format) : Type 0 where
   pub refused-only : (s : List ℕ) (r : Refusal) → verdictBy own s ≡ refused r → RefusedBy own s r
   pub refused-all : (s : List ℕ) (r : Refusal) → RefusedBy own s r → verdictBy own s ≡ refused r
   -- the same by number and place
   pub refused-at : (s : List ℕ) (r : Refusal) → verdictBy own s ≡ refused r → RefusedAt own s (numberOf (r .why)) (r .place)
-  pub accepted-only : (s : List ℕ) (cs : List Cut) → verdictBy own s ≡ accepted cs → AcceptedBy kinds s cs
-  pub accepted-all : (s : List ℕ) (cs : List Cut) → AcceptedBy kinds s cs → verdictBy own s ≡ accepted cs
+  pub accepted-only : (s : List ℕ) (cs : List Cut) → verdictBy own s ≡ accepted cs → AcceptedBy format s cs
+  pub accepted-all : (s : List ℕ) (cs : List Cut) → AcceptedBy format s cs → verdictBy own s ≡ accepted cs
   -- a file has one list of cuts, or one refusal, and never both
-  pub accepted-one : (s : List ℕ) (cs ds : List Cut) → AcceptedBy kinds s cs → AcceptedBy kinds s ds → cs ≡ ds
+  pub accepted-one : (s : List ℕ) (cs ds : List Cut) → AcceptedBy format s cs → AcceptedBy format s ds → cs ≡ ds
   pub refused-one : (s : List ℕ) (q r : Refusal) → RefusedBy own s q → RefusedBy own s r → q ≡ r
-  pub not-both : (s : List ℕ) (cs : List Cut) (r : Refusal) → AcceptedBy kinds s cs → RefusedBy own s r → ⊥
+  pub not-both : (s : List ℕ) (cs : List Cut) (r : Refusal) → AcceptedBy format s cs → RefusedBy own s r → ⊥

@@ -6,7 +6,7 @@ use lib.ListN.{length, getD}
 use lib.Dec.{leb, eqb}
 use Rattle.rules.specs.Rules.{meetsAll, rules0}
 use Rattle.rules.specs.Fields.{lengthAt}
-use Rattle.sections.specs.Checks.{Check, check, Own, checksAt}
+use Rattle.sections.specs.Checks.{Check, check, FormatChecks, checksAt}
 use Rattle.sections.specs.History.{Seen, seenAt, contextOf, cutsOf}
 use Rattle.sections.specs.declared.Cut.{Cut}
 use Rattle.sections.specs.declared.Refusal.{Refusal}
@@ -31,7 +31,7 @@ ifAccepted (Refused r) v = refused r
 
 -- section after section up to `end`, the place of the last four octets, from a place on. A file has fewer sections than octets: the first argument
 -- is never used up
-unfoldable pub sections : Own → ℕ → List ℕ → ℕ → List Seen → ℕ → Verdict
+unfoldable pub sections : FormatChecks → ℕ → List ℕ → ℕ → List Seen → ℕ → Verdict
 sections own zero s end seen at = refused (refuse Frame at)
 sections own (suc n) s end seen at =
     ifAccepted (firstFault (checksAt own s end (contextOf seen at) at))
@@ -45,7 +45,7 @@ unfoldable pub sized : List ℕ → Bool
 sized s = leb 20 (length s) && leb (length s) 8388608
 
 -- 1, 2, then section by section, the first of them after the 16 octets of section 0
-unfoldable pub verdictBy : Own → List ℕ → Verdict
+unfoldable pub verdictBy : FormatChecks → List ℕ → Verdict
 verdictBy own s =
     cond (sized s)
     (cond (meetsAll s 0 (rules0 (length s))) (sections own (length s) s (endOf s) [] 16) (refused (refuse Section0 0)))

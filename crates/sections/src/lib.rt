@@ -1,6 +1,6 @@
 // What the two formats share: document 01, "Sections", "Refusal numbers" and "Order in a file". The order of sections, sections 0, 1, 6 and 8, the
 // checks at a place as lists, and the verdict on any octets, accepted or refused, by whatever a format says of its own sections 3, 4, 5 and 7. Below it
-// stands `rules` (the fields of each section); above it `layout` (run-length packed files) and `duallayout` (dual-polarisation files) with their own sections, and `walks`.
+// stands `rules` (the fields of each section); above it `base_format` (run-length packed files) and `dual_format` (dual-polarisation files) with their own sections, and `walks`.
 //
 // What is to be believed stands in specs/; proofs/Exact.antt has the theorems that a verdict accepts and refuses exactly the files of
 // specs/Accepted.antt and specs/Refused.antt, for every format whose checks say what it says. The state below is the walk's own.

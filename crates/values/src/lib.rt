@@ -1,6 +1,6 @@
 // The published values in hundredths, as constant tables; what a level is (missing, or a number), its mark, value and kind; the readings
 // of a row of bins, run by run; and section 5's table, octet for octet. It stands on `runs`, and its laws on `octets` (sign and magnitude) and
-// `fraction` (a value as a float); `layout` judges section 5 with it, `cuts` and `stretches` take readings and kinds from it.
+// `fraction` (a value as a float); `base_format` judges section 5 with it, `cuts` and `stretches` take readings and kinds from it.
 //
 // A constant table that a loop indexes is laid out anew at each use. So whatever loops over levels is lent the table as a slice,
 // and one function on the product above it lends it.

@@ -9,7 +9,7 @@ use lib.ListN.{length, getD, length-append, List·getD-append, List·getD-eq-def
 use lib.Seq.{getD-at}
 use lib.Dec.{ltb, eqb}
 use Rattle.rules.specs.Fields.{lengthAt, numberAt, pointsAt}
-use Rattle.sections.specs.Checks.{Own, checksAt, sectionChecks}
+use Rattle.sections.specs.Checks.{FormatChecks, checksAt, sectionChecks}
 use Rattle.sections.specs.declared.Context.{Context}
 use Rattle.sections.specs.History.{Seen, seenAt, previous, lastSeen, firstSeen, cutsOf, cutsSeen, contextOf}
 use Rattle.sections.specs.Verdict.{accepted, refused, firstFault, sections, noCut}
@@ -112,12 +112,12 @@ kept-past st seen n want chosen m k = go (eqb n 7)
 
 -- ── what a step that goes on says ──
 
-pub record Went (own : Own) (s : List ℕ) (end : ℕ) (st next : State) : Type 0 where
+pub record Went (own : FormatChecks) (s : List ℕ) (end : ℕ) (st next : State) : Type 0 where
   pub fine : firstFault (checksAt own s end (contextIn st) (st .at)) ≡ J.Accepted
   pub open-end : st .at ≡ end → ⊥
   pub moved : next ≡ past st (numberAt s (st .at)) (lengthAt s (st .at))
 
-went-by : (own : Own) (s : List ℕ) (end : ℕ) (st next : State) (j : Judged) (t : Bool) → firstFault (checksAt own s end (contextIn st) (st .at)) ≡ j → eqb (st .at) end ≡ t
+went-by : (own : FormatChecks) (s : List ℕ) (end : ℕ) (st next : State) (j : Judged) (t : Bool) → firstFault (checksAt own s end (contextIn st) (st .at)) ≡ j → eqb (st .at) end ≡ t
     → stepFrom s end st j ≡ Next next → Went own s end st next
 went-by own s end st next J.Accepted true e p h =
     let g : Done ≡ Next next = rw p at h in
@@ -127,15 +127,15 @@ went-by own s end st next J.Accepted false e p h =
     record { fine = e; open-end = eqb-false _ _ p; moved = cc g }
 went-by own s end st next (J.Refused r) t e p h = let z : _≡_ {A = ℕ} 0 1 = cc in absurd (omega arith)
 
-pub went : (own : Own) (s : List ℕ) (end : ℕ) (st next : State) → stepOf own s end st ≡ Next next → Went own s end st next
+pub went : (own : FormatChecks) (s : List ℕ) (end : ℕ) (st next : State) → stepOf own s end st ≡ Next next → Went own s end st next
 unfolding stepOf
 went own s end st next h = went-by own s end st next (firstFault (checksAt own s end (contextIn st) (st .at))) (eqb (st .at) end) refl refl h
 
-pub record Ended (own : Own) (s : List ℕ) (end : ℕ) (st : State) : Type 0 where
+pub record Ended (own : FormatChecks) (s : List ℕ) (end : ℕ) (st : State) : Type 0 where
   pub fine : firstFault (checksAt own s end (contextIn st) (st .at)) ≡ J.Accepted
   pub there : st .at ≡ end
 
-ended-by : (own : Own) (s : List ℕ) (end : ℕ) (st : State) (j : Judged) (t : Bool) → firstFault (checksAt own s end (contextIn st) (st .at)) ≡ j → eqb (st .at) end ≡ t
+ended-by : (own : FormatChecks) (s : List ℕ) (end : ℕ) (st : State) (j : Judged) (t : Bool) → firstFault (checksAt own s end (contextIn st) (st .at)) ≡ j → eqb (st .at) end ≡ t
     → stepFrom s end st j ≡ Done → Ended own s end st
 ended-by own s end st J.Accepted true e p h = record { fine = e; there = eqb-true _ _ p }
 ended-by own s end st J.Accepted false e p h =
@@ -154,7 +154,7 @@ refused-by s end st r J.Accepted false p h =
 refused-by s end st r (J.Refused q) t p h = cc h
 
 -- the checks by the state are those by the history
-same-checks : (own : Own) (s : List ℕ) (end : ℕ) (st : State) (seen : List Seen) (j : Judged) → Mirrors st seen
+same-checks : (own : FormatChecks) (s : List ℕ) (end : ℕ) (st : State) (seen : List Seen) (j : Judged) → Mirrors st seen
     → firstFault (checksAt own s end (contextIn st) (st .at)) ≡ j → judgedAt own s end seen (st .at) ≡ j
 same-checks own s end st seen j m h =
     ap (λ (x : Context). firstFault (checksAt own s end x (st .at))) (sym (context-same st seen m)) ∙ h
@@ -162,14 +162,14 @@ same-checks own s end st seen j m h =
 -- ── past a section 3 the points are few ──
 
 -- a format whose section 3, once it passes, has no more points than that
-abbrev pub Few : Own → Type 0
+abbrev pub Few : FormatChecks → Type 0
 Few own = (s : List ℕ) (x : Context) (at : ℕ) → AllHold (own s x at 3) → pointsAt s at ≤ 2097152
 
-three-points : (own : Own) → Few own → (s : List ℕ) (x : Context) (at n : ℕ) → n ≡ 3 → AllHold (sectionChecks own s x at n) → pointsAt s at ≤ 2097152
+three-points : (own : FormatChecks) → Few own → (s : List ℕ) (x : Context) (at n : ℕ) → n ≡ 3 → AllHold (sectionChecks own s x at n) → pointsAt s at ≤ 2097152
 unfolding sectionChecks
 three-points own few s x at n e h = few s x at (subst (λ (m : ℕ). AllHold (sectionChecks own s x at m)) e h)
 
-points-past : (own : Own) → Few own → (s : List ℕ) (end : ℕ) (st : State) → (st .at ≡ end → ⊥) → firstFault (checksAt own s end (contextIn st) (st .at)) ≡ J.Accepted
+points-past : (own : FormatChecks) → Few own → (s : List ℕ) (end : ℕ) (st : State) → (st .at ≡ end → ⊥) → firstFault (checksAt own s end (contextIn st) (st .at)) ≡ J.Accepted
     → (3 ≤ st .previous → pointsAt s (st .section3) ≤ 2097152)
     → (n len : ℕ) → n ≡ numberAt s (st .at) → 3 ≤ n → pointsAt s (past st n len .section3) ≤ 2097152
 unfolding past
@@ -186,7 +186,7 @@ points-past own few s end st ne h old n len e le =
 
 -- ── the loop's invariant ──
 
-pub record Along (own : Own) (s : List ℕ) (end want : ℕ) (st : State) (chosen : Cut) : Type 0 where
+pub record Along (own : FormatChecks) (s : List ℕ) (end want : ℕ) (st : State) (chosen : Cut) : Type 0 where
   pub fuel : ℕ
   pub seen : List Seen
   pub same : sections own (length s) s end [] 16 ≡ sections own fuel s end seen (st .at)
@@ -213,7 +213,7 @@ past-previous : (st : State) (n len : ℕ) → past st n len .previous ≡ n
 unfolding past
 past-previous st n len = refl
 
-module _ (own : Own) (few : Few own) (s : List ℕ) (end want : ℕ) (st : State) (chosen : Cut) (a : Along own s end want st chosen) where
+module _ (own : FormatChecks) (few : Few own) (s : List ℕ) (end want : ℕ) (st : State) (chosen : Cut) (a : Along own s end want st chosen) where
   go-next : (f : ℕ) → f ≡ a .fuel → firstFault (checksAt own s end (contextIn st) (st .at)) ≡ J.Accepted → (st .at ≡ end → ⊥)
       → Along own s end want (past st (numberAt s (st .at)) (lengthAt s (st .at))) (chosenAfter want st (numberAt s (st .at)) chosen)
   go-next zero e h ne =
@@ -305,7 +305,7 @@ module _ (own : Own) (few : Few own) (s : List ℕ) (end want : ℕ) (st : State
 abbrev pub start : State
 start = record { at = 16; previous = 0; cuts = 0; first = 0; section3 = 0; section4 = 0; section5 = 0 }
 
-pub along-start : (own : Own) (s : List ℕ) (end want : ℕ) → 16 ≤ end → end + 4 ≤ length s → Along own s end want start noCut
+pub along-start : (own : FormatChecks) (s : List ℕ) (end want : ℕ) → 16 ≤ end → end + 4 ≤ length s → Along own s end want start noCut
 unfolding cutsOf
 along-start own s end want h k =
     record {

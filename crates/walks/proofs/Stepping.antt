@@ -4,7 +4,7 @@ use mathlib.Core.Path.{_≡_, _∙_, ap}
 use mathlib.Core.List.{List}
 use borrow.Author.Tests.{eq-eqb, ne-eqb}
 use Rattle.rules.specs.Fields.{lengthAt, numberAt}
-use Rattle.sections.specs.Checks.{Own, checksAt}
+use Rattle.sections.specs.Checks.{FormatChecks, checksAt}
 use Rattle.sections.specs.Verdict.{firstFault}
 use Rattle.walks.specs.Places.{contextIn}
 use Rattle.walks.specs.Walk.{past, stepFrom, stepOf}
@@ -13,7 +13,7 @@ use Rattle.walks.specs.declared.State.{State}
 use Rattle.sections.specs.declared.Judged.the-variants as J
 use Rattle.walks.specs.declared.Step.the-variants.{Next, Done, Refused}
 
-module _ (own : Own) (s : List ℕ) (end : ℕ) (st : State) where
+module _ (own : FormatChecks) (s : List ℕ) (end : ℕ) (st : State) where
   pub step-refused : (r : Refusal) → firstFault (checksAt own s end (contextIn st) (st .at)) ≡ J.Refused r → stepOf own s end st ≡ Refused r
   unfolding stepOf
   step-refused r h = ap (stepFrom s end st) h

@@ -1,11 +1,11 @@
 -- Each format's own checks.
-use Rattle.sections.specs.Checks.{Own}
-use Rattle.layout.specs.Checks as L
-use Rattle.duallayout.specs.Checks as D
-use Rattle.walks.specs.declared.Format.{Format}
-use Rattle.walks.specs.declared.Format.the-variants.{RunLength, DualPolarisation, AnyData}
+use Rattle.sections.specs.Checks.{FormatChecks}
+use Rattle.base_format.specs.Checks as L
+use Rattle.dual_format.specs.Checks as D
+use Rattle.walks.specs.declared.ReadAs.{ReadAs}
+use Rattle.walks.specs.declared.ReadAs.the-variants.{RunLength, DualPolarisation, AnyData}
 
-abbrev pub ownOf : Format → Own
-ownOf RunLength = L.ownChecks
-ownOf DualPolarisation = D.ownChecks
+abbrev pub ownOf : ReadAs → FormatChecks
+ownOf RunLength = L.baseChecks
+ownOf DualPolarisation = D.dualChecks
 ownOf AnyData = L.anyDataChecks

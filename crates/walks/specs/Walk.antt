@@ -5,7 +5,7 @@ use mathlib.Core.Bool.{cond}
 use lib.ListN.{length}
 use lib.Dec.{eqb}
 use Rattle.rules.specs.Fields.{lengthAt, numberAt, pointsAt}
-use Rattle.sections.specs.Checks.{Own, checksAt}
+use Rattle.sections.specs.Checks.{FormatChecks, checksAt}
 use Rattle.sections.specs.Verdict.{firstFault}
 use Rattle.walks.specs.Places.{firstIn, contextIn}
 use Rattle.sections.specs.declared.Cut.{Cut}
@@ -50,7 +50,7 @@ stepFrom s end st J.Accepted = cond (eqb (st .at) end) Done (Next (past st (numb
 stepFrom s end st (J.Refused r) = Refused r
 
 -- one step of the walk, by a format's own checks
-unfoldable pub stepOf : Own → List ℕ → ℕ → State → Step
+unfoldable pub stepOf : FormatChecks → List ℕ → ℕ → State → Step
 stepOf own s end st = stepFrom s end st (firstFault (checksAt own s end (contextIn st) (st .at)))
 
 -- what the walk answers where it ended

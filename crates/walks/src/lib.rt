@@ -1,6 +1,6 @@
 // The walk over the sections of a file, which answers the verdict on any octets: accepted, with the number of cuts and the places of one cut's sections;
 // or the refusal. One walk for both formats, which differ in the checks of their own sections alone. Below it stand `sections` (what every file has),
-// `layout` (run-length packed files) and `duallayout` (dual-polarisation files); above it `polar`, `listing` and `dualpol`, the calls.
+// `base_format` (run-length packed files) and `dual_format` (dual-polarisation files); above it `polar`, `listing` and `dualpol`, the calls.
 use sections::Context;
 use sections::Cut;
 use sections::Judged;
@@ -13,8 +13,8 @@ ghost use lib.ListN.{length};
 ghost use Rattle.rules.specs.Fields.{lengthAt, pointsAt};
 ghost use Rattle.sections.specs.Checks.{sectionChecks, checksAt};
 ghost use Rattle.sections.specs.Verdict.{firstFault, sections, verdictBy};
-ghost use Rattle.layout.specs.Verdict.{verdict, anyDataVerdict};
-ghost use Rattle.duallayout.specs.Verdict.{verdict as dualVerdict};
+ghost use Rattle.base_format.specs.Verdict.{verdict, anyDataVerdict};
+ghost use Rattle.dual_format.specs.Verdict.{verdict as dualVerdict};
 ghost use Rattle.walks.specs.Formats.{ownOf};
 ghost use Rattle.walks.specs.Answer.{answerFor};
 ghost use Rattle.walks.specs.Places.{firstIn, contextIn};
@@ -32,7 +32,7 @@ pub enum Walked {
 }
 
 // What a file is read as.
-enum Format {
+enum ReadAs {
     RunLength,
     DualPolarisation,
     AnyData, // run-length packed, its data not looked at
@@ -64,32 +64,32 @@ struct Ended {
 }
 
 // The checks of a section 7.
-fn judge7(format: Format, s: &[u8], x: Context, at: usize) -> Judged
+fn judge7(format: ReadAs, s: &[u8], x: Context, at: usize) -> Judged
     requires { ⌜ at + lengthAt (now s) at ≤ length (now s) ⌝ }
     requires { ⌜ pointsAt (now s) (x .section3) ≤ 2097152 ⌝ }
     ensures { λ r. ⌜ r ≡ firstFault (ownOf format (now (s .entry)) x at 7) ⌝ }
 {
     match format {
-        Format::RunLength => layout::judge7(s, x, at),
-        Format::DualPolarisation => duallayout::judge7(s, x, at),
-        Format::AnyData => layout::judge_any7(s, x, at),
+        ReadAs::RunLength => base_format::judge7(s, x, at),
+        ReadAs::DualPolarisation => dual_format::judge7(s, x, at),
+        ReadAs::AnyData => base_format::judge_any7(s, x, at),
     }
 }
 
 // The checks of the format's own sections other than a 7.
-fn judge_own(format: Format, s: &[u8], x: Context, at: usize, n: u8) -> Judged
+fn judge_own(format: ReadAs, s: &[u8], x: Context, at: usize, n: u8) -> Judged
     requires { ⌜ at + lengthAt (now s) at ≤ length (now s) ⌝ }
     requires { ⌜ (n ≡ 7 → ⊥) ⌝ }
     ensures { λ r. ⌜ r ≡ firstFault (ownOf format (now (s .entry)) x at n) ⌝ }
 {
     match format {
-        Format::RunLength | Format::AnyData => layout::judge(s, x, at, n),
-        Format::DualPolarisation => duallayout::judge(s, x, at, n),
+        ReadAs::RunLength | ReadAs::AnyData => base_format::judge(s, x, at, n),
+        ReadAs::DualPolarisation => dual_format::judge(s, x, at, n),
     }
 }
 
 // The checks of the section's own kind, other than a 7: 1 and 6 are every format's.
-fn judge(format: Format, s: &[u8], x: Context, at: usize, n: u8) -> Judged
+fn judge(format: ReadAs, s: &[u8], x: Context, at: usize, n: u8) -> Judged
     requires { ⌜ at + lengthAt (now s) at ≤ length (now s) ⌝ }
     requires { ⌜ (n ≡ 7 → ⊥) ⌝ }
     ensures { λ r. ⌜ r ≡ firstFault (sectionChecks (ownOf format) (now (s .entry)) x at n) ⌝ }
@@ -126,7 +126,7 @@ fn context_in(st: State) -> Context
 
 // All the checks at the cursor, in order: 3, 9, then the section's own. No cut begins with a section 7, so 9 is not asked there and it goes straight
 // to its checks: the compiler then makes a better loop of the scan, where nearly all the time goes.
-fn judge_here(format: Format, s: &[u8], end: usize, x: Context, at: usize) -> Judged
+fn judge_here(format: ReadAs, s: &[u8], end: usize, x: Context, at: usize) -> Judged
     requires { ⌜ (end ≤ length (now s)) × (3 ≤ x .previous → pointsAt (now s) (x .section3) ≤ 2097152) ⌝ }
     ensures { λ r. ⌜ r ≡ firstFault (checksAt (ownOf format) (now (s .entry)) end x at) ⌝ }
 {
@@ -175,7 +175,7 @@ fn passed(st: State, n: u8, len: usize) -> State
 }
 
 // One step of the walk: the checks at the cursor, and past the section where they hold.
-fn one_step(format: Format, s: &[u8], end: usize, st: State) -> Step
+fn one_step(format: ReadAs, s: &[u8], end: usize, st: State) -> Step
     requires { ⌜ Sound (now s) end st ⌝ }
     ensures { λ r. ⌜ r ≡ stepOf (ownOf format) (now (s .entry)) end st ⌝ }
 {
@@ -220,7 +220,7 @@ fn chosen_after(want: usize, st: State, n: u8, chosen: Cut) -> Cut
 }
 
 // Section after section up to `end`, from section 1 on.
-fn walk_to(format: Format, s: &[u8], end: usize, want: usize) -> Ended
+fn walk_to(format: ReadAs, s: &[u8], end: usize, want: usize) -> Ended
     requires { ⌜ (16 ≤ end) × (end + 4 ≤ length (now s)) ⌝ }
     ensures { λ r. ⌜ endedAs r ≡ answerFor want (sections (ownOf format) (length (now (s .entry))) (now (s .entry)) end [] 16) ⌝ }
 {
@@ -277,7 +277,7 @@ fn ended_as(ended: Ended) -> Walked
     }
 }
 
-fn walk_as(format: Format, s: &[u8], want: usize) -> Walked
+fn walk_as(format: ReadAs, s: &[u8], want: usize) -> Walked
     ensures { λ r. ⌜ r ≡ answerFor want (verdictBy (ownOf format) (now (s .entry))) ⌝ }
 {
     let n = s.len();
@@ -297,19 +297,19 @@ fn walk_as(format: Format, s: &[u8], want: usize) -> Walked
 pub fn walk(s: &[u8], want: usize) -> Walked
     ensures { λ r. ⌜ r ≡ answerFor want (verdict (now (s .entry))) ⌝ }
 {
-    walk_as(Format::RunLength, s, want)
+    walk_as(ReadAs::RunLength, s, want)
 }
 
 // The same as a dual-polarisation file.
 pub fn walk_dual(s: &[u8], want: usize) -> Walked
     ensures { λ r. ⌜ r ≡ answerFor want (dualVerdict (now (s .entry))) ⌝ }
 {
-    walk_as(Format::DualPolarisation, s, want)
+    walk_as(ReadAs::DualPolarisation, s, want)
 }
 
 // The same as a run-length packed file whose data may be anything.
 pub fn walk_any(s: &[u8], want: usize) -> Walked
     ensures { λ r. ⌜ r ≡ answerFor want (anyDataVerdict (now (s .entry))) ⌝ }
 {
-    walk_as(Format::AnyData, s, want)
+    walk_as(ReadAs::AnyData, s, want)
 }

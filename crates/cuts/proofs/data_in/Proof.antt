@@ -1,5 +1,5 @@
 -- The part from octet 6 to the end of section 7.
-use Rattle.layout.specs.Parts.{dataAt}
+use Rattle.base_format.specs.Parts.{dataAt}
 use Rattle.rules.specs.Fields.{lengthAt}
 use lib.ListN.{take, drop}
 use denote.Ref.{now}

@@ -1,7 +1,7 @@
 -- The field of section 5, which a good cut holds to 252.
 use Rattle.cuts.proofs.Places.{greatest-small}
 use native.Mathlib.Omega.{arith}
-use Rattle.layout.specs.Parts.{greatestIn}
+use Rattle.base_format.specs.Parts.{greatestIn}
 use Rattle.rules.specs.Fields.{greatestAt}
 use borrow.Author.Needs.{needs}
 use Rattle.cuts.proofs.greatest_in.Statement.{statement}

@@ -1,6 +1,6 @@
 -- Field by field.
 use Rattle.rules.specs.Fields.{parameterAt}
-use Rattle.duallayout.specs.Fields.{siteAt}
+use Rattle.dual_format.specs.Fields.{siteAt}
 use borrow.Author.Needs.{needs}
 use Rattle.dualpol.proofs.summary_of.Statement.{statement}
 use Rattle.dualpol.proofs.summary_of.Tie as tie

@@ -1,7 +1,7 @@
 -- The packing of a good cut is one that cells are told by, and its cells are few.
 use Rattle.sections.specs.Parts.{raysIn}
-use Rattle.duallayout.specs.Fields.{referenceAt, binaryAt, decimalAt, widthAt}
-use Rattle.duallayout.specs.Parts.{referenceIn, binaryIn, decimalIn, widthIn, cellIn, toldIn}
+use Rattle.dual_format.specs.Fields.{referenceAt, binaryAt, decimalAt, widthAt}
+use Rattle.dual_format.specs.Parts.{referenceIn, binaryIn, decimalIn, widthIn, cellIn, toldIn}
 use Rattle.dualpol.proofs.Cells.{few-cells}
 use Rattle.dualpol.proofs.Answering.{right-at}
 use denote.Ref.{now}

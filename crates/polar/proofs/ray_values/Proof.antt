@@ -3,7 +3,7 @@ use Rattle.calls.proofs.Finding.{on-found, on-refused, cut-found, good-cut}
 use Rattle.calls.specs.Cuts.{ifWritten}
 use Rattle.polar.specs.Rays.{rayAnswer, marksAfter, valuesAfter}
 use Rattle.cuts.specs.Bins.{rayIn}
-use Rattle.layout.specs.Parts.{productIn}
+use Rattle.base_format.specs.Parts.{productIn}
 use Rattle.sections.specs.declared.Cut.{Cut}
 use Rattle.values.specs.Ray.{marksOf, valuesOf}
 use denote.Ref.{now}

@@ -116,8 +116,8 @@ module _ {M : Type 1} (𝓤 : URA M) (H : Heap 𝓤) (A : Atoms 𝓤) (W : Given
   abbrev Post : Val → SProp 𝓤
   Post = walkOf 𝓤 H A call.ended stayed (call.clauses 𝓤 H A mem run) .post ((κs, (q₀, (q₁, (q₂, tt))), tt, a, vals), tt)
 
-  abbrev Own : Fml
-  Own = ShrSlice (named 0) κ₀ u8 .own s (vs ∷ [])
+  abbrev FormatChecks : Fml
+  FormatChecks = ShrSlice (named 0) κ₀ u8 .own s (vs ∷ [])
 
   abbrev Mut : Fml
   Mut = MutSlice (named 1) κ₁ R.the-row .own x (vr ∷ [])
@@ -137,9 +137,9 @@ module _ {M : Type 1} (𝓤 : URA M) (H : Heap 𝓤) (A : Atoms 𝓤) (W : Given
   abbrev to-build : Build 𝓤 H A mem run .Ghost
   to-build = (((κ₀, (κ₁, tt)), (q₀, (q₁, tt)), tt, (s, (i, (x, tt))), (vs ∷ [], (vint w64 i ∷ [], (vr ∷ [], tt)))), tt)
 
-  goes-build : ent 𝓤 (⋆ 𝓤 H A ((‵ (flft κ₀ q₀) ⊛ ‵ (flft κ₁ q₁)) ∷ ‵ Own ∷ ‵ Mut ∷ [])) (Build 𝓤 H A mem run .pre to-build)
+  goes-build : ent 𝓤 (⋆ 𝓤 H A ((‵ (flft κ₀ q₀) ⊛ ‵ (flft κ₁ q₁)) ∷ ‵ FormatChecks ∷ ‵ Mut ∷ [])) (Build 𝓤 H A mem run .pre to-build)
   goes-build =
-      qed W ((‵ (flft κ₀ q₀) ⊛ ‵ (flft κ₁ q₁)) ∷ ‵ Own ∷ ‵ Mut ∷ []) ∵ split ! $ nothing ! $ move ! (2 ∷ 0 ∷ []) $ join ! $ move ! (1 ∷ 0 ∷ []) $ join ! $
+      qed W ((‵ (flft κ₀ q₀) ⊛ ‵ (flft κ₁ q₁)) ∷ ‵ FormatChecks ∷ ‵ Mut ∷ []) ∵ split ! $ nothing ! $ move ! (2 ∷ 0 ∷ []) $ join ! $ move ! (1 ∷ 0 ∷ []) $ join ! $
       nothing ! $ move ! (3 ∷ 0 ∷ []) $ fjoin ! $ owned ! usize (Is usize) (uint-makes 𝓤 H A W w64) i _ (refl, i-fits) $ fjoin ! $ move ! (2 ∷ 0 ∷ []) $ fjoin ! $ move ! (1 ∷ 0 ∷ []) $ join ! $ frame ! $ done !
 
   abbrev to-tell : RayAnswer → Val → Tell 𝓤 H A mem run .Ghost

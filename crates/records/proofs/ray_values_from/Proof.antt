@@ -3,7 +3,7 @@ use Rattle.calls.proofs.Finding.{on-found, on-refused, cut-found, any-cut}
 use Rattle.calls.specs.Cuts.{ifWritten}
 use Rattle.records.specs.Records.{fromAnswer, marksFrom, valuesFrom}
 use Rattle.cuts.specs.Records.{rayFrom}
-use Rattle.layout.specs.Parts.{productIn}
+use Rattle.base_format.specs.Parts.{productIn}
 use Rattle.values.specs.Ray.{marksOf, valuesOf}
 use Rattle.sections.specs.declared.Cut.{Cut}
 use denote.Ref.{now}

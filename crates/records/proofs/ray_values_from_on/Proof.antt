@@ -6,7 +6,7 @@ use native.Mathlib.Omega.{arith}
 use lib.ListN.{length}
 use denote.Ref.{now}
 use Rattle.values.specs.Ray.{marksOf, valuesOf}
-use Rattle.layout.specs.Parts.{productIn}
+use Rattle.base_format.specs.Parts.{productIn}
 use Rattle.cuts.specs.Records.{rayFrom}
 use Rattle.records.proofs.Answering.{from-none, from-short, from-given, from-not}
 use Rattle.sections.specs.Refusal.{refuse}

@@ -1,6 +1,6 @@
 -- By the format.
-use Rattle.layout.specs.Checks as L
-use Rattle.duallayout.specs.Checks as D
+use Rattle.base_format.specs.Checks as L
+use Rattle.dual_format.specs.Checks as D
 use borrow.Author.Needs.{needs}
 use Rattle.walks.proofs.judge7.Statement.{statement}
 use Rattle.walks.proofs.judge7.Tie as tie
@@ -24,11 +24,11 @@ judge-any7-requires : tie.Need-judge-any7-requires
 judge-any7-requires c κs = search needs
 
 returns : tie.Need-returns
-unfolding L.ownChecks
+unfolding L.baseChecks
 returns c = rw (c .before .enum-told .given .1) (c .judge7 .ensures)
 
 returns-2 : tie.Need-returns-2
-unfolding D.ownChecks
+unfolding D.dualChecks
 returns-2 c = rw (c .before .enum-told2 .given .1) (c .judge72 .ensures)
 
 returns-3 : tie.Need-returns-3

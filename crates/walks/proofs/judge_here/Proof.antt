@@ -2,7 +2,7 @@
 -- the file ask.
 use Rattle.sections.proofs.Framed.{framed-is}
 use Rattle.sections.proofs.Order.{past-three}
-use Rattle.sections.specs.Checks.{Own, framed, roomForCut, sectionChecks, checksAt}
+use Rattle.sections.specs.Checks.{FormatChecks, framed, roomForCut, sectionChecks, checksAt}
 use Rattle.sections.specs.declared.Context.{Context}
 use Rattle.sections.specs.Verdict.{firstFault}
 use Rattle.walks.specs.Formats.{ownOf}
@@ -55,7 +55,7 @@ judge7-requires c κs = let w = asked (c .before) in
     (w .0, w .1 (c .if3 .taken))
 
 -- a framed section 7 has its own checks alone: there is room, since no cut begins
-seven : (own : Own) (s : List ℕ) (end : ℕ) (x : Context) (at : ℕ) → (at ≡ end → ⊥) → framed s end x at ≡ true → numberAt s at ≡ 7
+seven : (own : FormatChecks) (s : List ℕ) (end : ℕ) (x : Context) (at : ℕ) → (at ≡ end → ⊥) → framed s end x at ≡ true → numberAt s at ≡ 7
     → firstFault (own s x at 7) ≡ firstFault (checksAt own s end x at)
 unfolding checksAt roomForCut sectionChecks
 seven own s end x at h f n = rw (ne-eqb at end h, f, n, and-false)

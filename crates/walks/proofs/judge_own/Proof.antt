@@ -9,15 +9,15 @@ use borrow.Author.Needs.{needs}
 use denote.Ref.{now}
 use denote.Enum.Declared.{tagOf}
 use Rattle.sections.specs.declared.Context.{Context}
-use Rattle.layout.specs.Checks as L
+use Rattle.base_format.specs.Checks as L
 use Rattle.walks.specs.Formats.{ownOf}
-use Rattle.walks.specs.declared.Format.{Format}
-use Rattle.walks.specs.declared.Format.the-variants.{RunLength, DualPolarisation, AnyData}
-use Rattle.walks.proofs.Format.{the-type}
+use Rattle.walks.specs.declared.ReadAs.{ReadAs}
+use Rattle.walks.specs.declared.ReadAs.the-variants.{RunLength, DualPolarisation, AnyData}
+use Rattle.walks.proofs.ReadAs.{the-type}
 use Rattle.walks.proofs.judge_own.Statement.{statement}
 use Rattle.walks.proofs.judge_own.Tie as tie
 
-same-own : (f : Format) → (tagOf the-type f ≡ 0) ⊎ (tagOf the-type f ≡ 2) → (s : List ℕ) (x : Context) (at n : ℕ) → (n ≡ 7 → ⊥) → L.ownChecks s x at n ≡ ownOf f s x at n
+same-own : (f : ReadAs) → (tagOf the-type f ≡ 0) ⊎ (tagOf the-type f ≡ 2) → (s : List ℕ) (x : Context) (at n : ℕ) → (n ≡ 7 → ⊥) → L.baseChecks s x at n ≡ ownOf f s x at n
 unfolding L.anyDataChecks
 same-own RunLength k s x at n other = refl
 same-own AnyData k s x at n other = rw (ne-eqb n 7 other)

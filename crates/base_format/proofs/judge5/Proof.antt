@@ -1,0 +1,61 @@
+-- The length is tested first, since the table can only be lent where it is right.
+use Rattle.rules.specs.Fields.{lengthAt, countAt}
+use borrow.Author.Tests.{eq-eqb, ne-eqb}
+use denote.Ref.{now}
+use native.Mathlib.Omega.{arith}
+use Prim.Native.Nat.{_+_, _*_}
+use mathlib.Core.Path.{_≡_, sym, _∙_}
+use borrow.Author.Needs.{needs}
+use Rattle.base_format.proofs.judge5.Statement.{statement}
+use Rattle.base_format.proofs.judge5.Tie as tie
+
+field32-requires : tie.Need-field32-requires
+field32-requires c κs = search needs
+
+field16-requires : tie.Need-field16-requires
+field16-requires c κs = search needs
+
+wide16-requires : tie.Need-wide16-requires
+wide16-requires c κs = search needs
+
+mul-due : tie.Need-mul-due
+mul-due c = search needs
+
+add-due : tie.Need-add-due
+add-due c = search needs
+
+judge5-fields-requires : tie.Need-judge5-fields-requires
+unfolding lengthAt
+judge5-fields-requires c κs = let a = c .before .before .before .before .before .args in
+    let e = sym (c .before .before .before .field32 .ensures) ∙ c .if1 .taken in
+    (omega arith, c .before .before .before .before .before .pre)
+
+returns : tie.Need-returns
+unfolding lengthAt countAt
+returns c = let a = c .before .before .before .before .before .before .args in
+    let e : lengthAt (now (a .s)) (a .at) ≡ 17 + 2 * countAt (now (a .s)) (a .at) = cc in
+    rw (eq-eqb _ _ e) (c .judge5-fields .ensures)
+
+refused-requires : tie.Need-refused-requires
+refused-requires c κs = search needs
+
+returns-2 : tie.Need-returns-2
+unfolding lengthAt countAt
+returns-2 c = let a = c .before .before .before .before .before .before .args in
+    let w : c .before .before .wide16 .result ≡ countAt (now (a .s)) (a .at) = cc in
+    let n : lengthAt (now (a .s)) (a .at) ≡ 17 + 2 * countAt (now (a .s)) (a .at) → ⊥ = λ e. c .before .if1 .left (cc) in
+    rw (ne-eqb _ _ n) (c .refused .ensures)
+
+pub judge5-spec : {M : Type 1} → statement M
+judge5-spec =
+    tie.close
+    (tie.spec
+    field32-requires
+    field16-requires
+    wide16-requires
+    mul-due
+    add-due
+    judge5-fields-requires
+    refused-requires
+    returns
+    returns-2)

@@ -1,0 +1,62 @@
+-- Document 01, "Refusal numbers" and "Order in a file": the checks of sections 3, 4, 5 and 7, in the document's order: 4, 5, 6, 7, 8.
+-- (12 stands before 8: a file call passes on what run reading answers.)
+use Prim.Native.Nat.{ℕ, _+_, _*_}
+use mathlib.Core.List.{List, [], _∷_}
+use mathlib.Core.Bool.{cond}
+use lib.Dec.{leb, eqb}
+use lib.ListN.{take}
+use Rattle.rules.specs.Rules.{field, meetsAll, rules3, rules4, rules5}
+use Rattle.rules.specs.Fields.{lengthAt, raysAt, pointsAt, parameterAt, siteAt, greatestAt, countAt}
+use Rattle.runs.specs.Run.{gives}
+use Rattle.values.specs.Published.{levelCount}
+use Rattle.values.specs.Table.{tableRight}
+use Rattle.sections.specs.Checks.{Check, check, FormatChecks}
+use Rattle.sections.specs.declared.Context.{Context}
+use Rattle.sections.specs.Refusal.{refuse}
+use Rattle.sections.specs.declared.Why.the-variants.{SectionLength, Field, Points, Table, Data, «V»}
+use Rattle.base_format.specs.Parts.{productOf, tableAt, dataAt}
+
+abbrev pub checks3 : List ℕ → ℕ → List Check
+checks3 s at =
+    check (refuse SectionLength at) (eqb (lengthAt s at) 41)
+    ∷ check (refuse Field at) (meetsAll s at rules3)
+    ∷ check (refuse Points at) (eqb (field s at 7 4) (pointsAt s at))
+    ∷ []
+
+abbrev pub checks4 : List ℕ → Context → ℕ → List Check
+checks4 s x at =
+    check (refuse SectionLength at) (eqb (lengthAt s at) (60 + 4 * raysAt s (x .section3)))
+    ∷ check (refuse Field at) (meetsAll s at (rules4 (parameterAt s (x .first)) (siteAt s (x .first))))
+    ∷ []
+
+-- "17 + 2M with M as read"; under 17 no M makes the length right
+abbrev pub pastLength5 : List ℕ → Context → ℕ → List Check
+pastLength5 s x at =
+    check (refuse Field at) (meetsAll s at (rules5 (levelCount (productOf (parameterAt s (x .section4))))))
+    ∷ check (refuse Points at) (eqb (field s at 6 4) (pointsAt s (x .section3)))
+    ∷ check (refuse Table at) (tableRight (tableAt s at) (productOf (parameterAt s (x .section4))))
+    ∷ []
+
+abbrev pub checks5 : List ℕ → Context → ℕ → List Check
+checks5 s x at = check (refuse SectionLength at) (eqb (lengthAt s at) (17 + 2 * countAt s at)) ∷ pastLength5 s x at
+
+abbrev pub checks7 : List ℕ → Context → ℕ → List Check
+checks7 s x at =
+    check (refuse SectionLength at) (leb 6 (lengthAt s at))
+    ∷ check (refuse «V» at) (leb (greatestAt s (x .section5)) 253)
+    ∷ check (refuse Data at) (gives (greatestAt s (x .section5)) (pointsAt s (x .section3)) (dataAt s at))
+    ∷ []
+
+unfoldable pub baseChecks : FormatChecks
+baseChecks s x at n =
+    cond (eqb n 3) (checks3 s at)
+    (cond (eqb n 4) (checks4 s x at)
+    (cond (eqb n 5) (checks5 s x at)
+    (cond (eqb n 7) (checks7 s x at) [])))
+
+-- Wish 4: "every file check but 8", which is the last
+abbrev pub anyDataChecks7 : List ℕ → Context → ℕ → List Check
+anyDataChecks7 s x at = take 2 (checks7 s x at)
+
+unfoldable pub anyDataChecks : FormatChecks
+anyDataChecks s x at n = cond (eqb n 7) (anyDataChecks7 s x at) (baseChecks s x at n)

@@ -1,0 +1,37 @@
+-- The part that every grid has, then one `both` for each rule of this one.
+use Rattle.rules.specs.Rules.{meetsAll, gridRules}
+use Rattle.dual_format.specs.Rules.{flagRules, rules3}
+use borrow.Author.Needs.{needs}
+use mathlib.Core.Path.{sym, _∙_}
+use denote.Ref.{now}
+use Rattle.rules.proofs.Chains.{both, flat, meets-append}
+use Rattle.dual_format.proofs.fields3.Statement.{statement}
+use Rattle.dual_format.proofs.fields3.Tie as tie
+
+grid-fields-requires : tie.Need-grid-fields-requires
+grid-fields-requires c κs = search needs
+
+within8-requires : tie.Need-within8-requires
+within8-requires c κs = search needs
+
+within8-requires-2 : tie.Need-within8-requires-2
+within8-requires-2 c κs = search needs
+
+returns : tie.Need-returns
+unfolding rules3
+returns c =
+    let a = c .before .before .before .before .args in
+    (both (both (c .before .before .grid-fields .ensures)
+    (c .before .within8 .ensures))
+    (c .within82 .ensures))
+    ∙ flat (meetsAll (now (a .s)) (a .at) (gridRules 50121)) (now (a .s)) (a .at) flagRules
+    ∙ sym (meets-append (now (a .s)) (a .at) (gridRules 50121) flagRules)
+
+pub fields3-spec : {M : Type 1} → statement M
+fields3-spec =
+    tie.close
+    (tie.spec
+    grid-fields-requires
+    within8-requires
+    within8-requires-2
+    returns)
