@@ -44,8 +44,8 @@ module _ (s : List ℕ) (end : ℕ) where
 
   cuts : {first s3 at : ℕ} {cs : List Cut} → Cuts baseFormat s end first s3 at cs → Cuts anyDataFormat s end first s3 at cs
   cuts none = none
-  cuts (own h t b k) = own h t (body b) (cuts k)
-  cuts (shared b k) = same-3 (body b) (cuts k)
+  cuts (new-3 h t b k) = new-3 h t (body b) (cuts k)
+  cuts (same-3 b k) = same-3 (body b) (cuts k)
 
   past : {cs : List Cut} → AfterZero baseFormat s end cs → AfterZero anyDataFormat s end cs
   past p = record {
@@ -99,8 +99,8 @@ module _ (s : List ℕ) (end : ℕ) where
 
   full-cuts : {first s3 at : ℕ} {cs : List Cut} → AllRight s cs → Cuts anyDataFormat s end first s3 at cs → Cuts baseFormat s end first s3 at cs
   full-cuts d none = none
-  full-cuts d (new-3 {c = c} {cs = cs} h t b k) = own h t (full-body (d 0 (omega arith)) b) (full-cuts (rest-right s c cs d) k)
-  full-cuts d (same-3 {c = c} {cs = cs} b k) = shared (full-body (d 0 (omega arith)) b) (full-cuts (rest-right s c cs d) k)
+  full-cuts d (new-3 {c = c} {cs = cs} h t b k) = new-3 h t (full-body (d 0 (omega arith)) b) (full-cuts (rest-right s c cs d) k)
+  full-cuts d (same-3 {c = c} {cs = cs} b k) = same-3 (full-body (d 0 (omega arith)) b) (full-cuts (rest-right s c cs d) k)
 
   full-past : {cs : List Cut} → AllRight s cs → AfterZero anyDataFormat s end cs → AfterZero baseFormat s end cs
   full-past {cs} d p = record {
