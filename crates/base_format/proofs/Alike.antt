@@ -5,8 +5,9 @@ use mathlib.Core.List.{List}
 use native.Mathlib.Omega.{arith}
 use lib.ListN.{length, take, drop}
 use Rattle.octets.proofs.Lies.{part-same}
-use Rattle.rules.specs.Rules.{meetsAll, rules3, rules4, rules5}
-use Rattle.rules.specs.Fields.{siteAt, greatestAt, countAt}
+use Rattle.rules.specs.Rules.{meetsAll}
+use Rattle.base_format.specs.Rules.{rules3, rules4, rules5}
+use Rattle.base_format.specs.Fields.{siteAt, greatestAt, countAt}
 use Rattle.rules.proofs.Moved.{rules-same}
 use Rattle.sections.specs.Accepted.{sectionAt}
 use Rattle.sections.proofs.There.{AllThere, lies-at}

@@ -8,7 +8,8 @@ use native.Mathlib.Omega.{arith}
 use borrow.Author.Tests.{eqb-true}
 use lib.Dec.{eqb}
 use lib.ListN.{length, drop, getD}
-use Rattle.rules.specs.Fields.{pointsAt, greatestAt, numberAt}
+use Rattle.rules.specs.Fields.{pointsAt, numberAt}
+use Rattle.base_format.specs.Fields.{greatestAt}
 use Rattle.runs.specs.Runs.{Exactly}
 use Rattle.sections.specs.Refusal.{numberOf}
 use Rattle.sections.specs.Checks.{Check, check, framed, roomForCut, closes, checks1, checks6, sectionChecks, checksAt}

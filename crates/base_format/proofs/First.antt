@@ -4,8 +4,10 @@ use mathlib.Core.Path.{_≡_, sym, subst}
 use mathlib.Core.List.{List}
 use mathlib.Core.Bool.{true}
 use native.Mathlib.Omega.{arith}
-use Rattle.rules.specs.Rules.{is, meetsAll, rules4}
-use Rattle.rules.specs.Fields.{parameterAt, siteAt}
+use Rattle.rules.specs.Rules.{is, meetsAll}
+use Rattle.base_format.specs.Rules.{rules4}
+use Rattle.rules.specs.Fields.{parameterAt}
+use Rattle.base_format.specs.Fields.{siteAt}
 use Rattle.rules.proofs.Bounds.{nth-rule, is-exactly}
 use Rattle.base_format.specs.Accepted.{Section4}
 

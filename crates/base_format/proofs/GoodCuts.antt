@@ -1,5 +1,5 @@
 -- Each cut of an accepted file is good, and each of a file that is accepted but for its data is so but for its data: its section 3, wherever it stands, and its own sections 4 to 7 are those of `Accepted`.
-use Prim.Native.Nat.{ℕ, _*_, _<_}
+use Prim.Native.Nat.{ℕ, _*_, _≤_, _<_}
 use mathlib.Core.Path.{_≡_, sym, subst}
 use mathlib.Core.List.{List}
 use mathlib.Core.Bool.{true}
@@ -7,9 +7,10 @@ use native.Mathlib.Omega.{arith}
 use native.Mathlib.Nat.{mul-comm}
 use borrow.Author.Tests.{leb-true}
 use lib.ListN.{length, getD}
-use Rattle.rules.specs.Rules.{scanRules, rules3}
+use Rattle.base_format.specs.Rules.{scanRules, rules3}
 use Rattle.rules.specs.Fields.{binsAt, raysAt, pointsAt}
-use Rattle.rules.proofs.Bounds.{bins-bound, rays-bound, greatest-bound}
+use Rattle.rules.proofs.Bounds.{bins-bound, rays-bound}
+use Rattle.base_format.proofs.Bounds.{greatest-bound}
 use Rattle.runs.specs.Run.{gives}
 use Rattle.values.specs.Published.{levelCount}
 use Rattle.sections.specs.Parts.{binsIn, raysIn}

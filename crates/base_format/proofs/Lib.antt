@@ -1,3 +1,4 @@
+pub mod Bounds
 pub mod Alike
 pub mod Says
 pub mod First

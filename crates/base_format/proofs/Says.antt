@@ -8,9 +8,12 @@ use native.Mathlib.Omega.{arith}
 use borrow.Author.Tests.{eqb-true, le-leb}
 use lib.Dec.{eqb, leb}
 use lib.ListN.{drop}
-use Rattle.rules.specs.Rules.{meetsAll, scanRules, rules3, rules4, rules5}
-use Rattle.rules.specs.Fields.{lengthAt, raysAt, pointsAt, parameterAt, siteAt, greatestAt, countAt}
-use Rattle.rules.proofs.Bounds.{points-bound, greatest-bound}
+use Rattle.rules.specs.Rules.{meetsAll}
+use Rattle.base_format.specs.Rules.{scanRules, rules3, rules4, rules5}
+use Rattle.rules.specs.Fields.{lengthAt, raysAt, pointsAt, parameterAt}
+use Rattle.base_format.specs.Fields.{siteAt, greatestAt, countAt}
+use Rattle.rules.proofs.Bounds.{points-bound}
+use Rattle.base_format.proofs.Bounds.{greatest-bound}
 use Rattle.runs.specs.Run.{gives}
 use Rattle.runs.proofs.Meaning.{gives-exactly, exactly-gives}
 use Rattle.values.specs.declared.Product.{Product}

@@ -4,8 +4,10 @@ use Prim.Native.Nat.{ℕ, _+_, _*_, _≤_}
 use mathlib.Core.Path.{_≡_}
 use mathlib.Core.List.{List}
 use lib.ListN.{length, drop}
-use Rattle.rules.specs.Rules.{field, rules3, rules4, rules5}
-use Rattle.rules.specs.Fields.{raysAt, pointsAt, parameterAt, siteAt, greatestAt, countAt}
+use Rattle.rules.specs.Rules.{field}
+use Rattle.base_format.specs.Rules.{rules3, rules4, rules5}
+use Rattle.rules.specs.Fields.{raysAt, pointsAt, parameterAt}
+use Rattle.base_format.specs.Fields.{siteAt, greatestAt, countAt}
 use Rattle.runs.specs.Runs.{Exactly}
 use Rattle.values.specs.Published.{levelCount}
 use Rattle.values.specs.Table.{tableOctets}

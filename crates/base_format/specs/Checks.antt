@@ -5,8 +5,10 @@ use mathlib.Core.List.{List, [], _∷_}
 use mathlib.Core.Bool.{cond}
 use lib.Dec.{leb, eqb}
 use lib.ListN.{take}
-use Rattle.rules.specs.Rules.{field, meetsAll, rules3, rules4, rules5}
-use Rattle.rules.specs.Fields.{lengthAt, raysAt, pointsAt, parameterAt, siteAt, greatestAt, countAt}
+use Rattle.rules.specs.Rules.{field, meetsAll}
+use Rattle.base_format.specs.Rules.{rules3, rules4, rules5}
+use Rattle.rules.specs.Fields.{lengthAt, raysAt, pointsAt, parameterAt}
+use Rattle.base_format.specs.Fields.{siteAt, greatestAt, countAt}
 use Rattle.runs.specs.Run.{gives}
 use Rattle.values.specs.Published.{levelCount}
 use Rattle.values.specs.Table.{tableRight}

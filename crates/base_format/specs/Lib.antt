@@ -1,3 +1,5 @@
+pub mod Rules
+pub mod Fields
 pub mod Parts
 pub mod Checks
 pub mod Verdict

@@ -4,7 +4,8 @@ use mathlib.Core.List.{List}
 use mathlib.Core.Bool.{cond}
 use lib.Dec.{eqb}
 use lib.ListN.{take, drop, getD}
-use Rattle.rules.specs.Fields.{lengthAt, parameterAt, greatestAt}
+use Rattle.rules.specs.Fields.{lengthAt, parameterAt}
+use Rattle.base_format.specs.Fields.{greatestAt}
 use Rattle.runs.specs.Run.{levels}
 use Rattle.values.specs.declared.Product.{Product}
 use Rattle.values.specs.declared.Product.the-variants.{Reflectivity, Velocity}

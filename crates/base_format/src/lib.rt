@@ -16,6 +16,9 @@ ghost use Rattle.rules.specs.Fields.{lengthAt, pointsAt};
 ghost use Rattle.runs.specs.Run.{gives};
 ghost use Rattle.values.specs.Table.{tableRight};
 ghost use Rattle.sections.specs.Verdict.{firstFault};
+ghost use Rattle.rules.specs.Rules.{meets, meetsAll, within, magnitude, either};
+ghost use Rattle.base_format.specs.Rules.{rules3, rules4, rules5};
+ghost use Rattle.base_format.specs.Fields.{siteAt, greatestAt, countAt};
 ghost use Rattle.base_format.specs.Parts.{productOf, tableAt, dataAt, productIn};
 ghost use Rattle.base_format.specs.Checks.{checks3, checks4, checks5, pastLength5, checks7, baseChecks, anyDataChecks7};
 
@@ -23,6 +26,68 @@ fn wide16(x: u16) -> u32
     ensures { λ r. ⌜ r ≡ x ⌝ }
 {
     x as u32
+}
+
+// The fields that other sections and the calls go by: each octet number stands here alone.
+
+pub fn site_at(s: &[u8], at: usize) -> u16
+    ensures { λ r. ⌜ r ≡ siteAt (now (s .entry)) at ⌝ }
+{
+    rules::field16(s, at, 29)
+}
+
+pub fn greatest_at(s: &[u8], at: usize) -> u16
+    ensures { λ r. ⌜ r ≡ greatestAt (now (s .entry)) at ⌝ }
+{
+    rules::field16(s, at, 13)
+}
+
+fn count_at(s: &[u8], at: usize) -> u16
+    ensures { λ r. ⌜ r ≡ countAt (now (s .entry)) at ⌝ }
+{
+    rules::field16(s, at, 15)
+}
+
+// The field rules of each section, as one chain of tests without branches.
+
+fn fields3(s: &[u8], at: usize) -> bool
+    ensures { λ r. ⌜ r ≡ meetsAll (now (s .entry)) at rules3 ⌝ }
+{
+    rules::grid_fields(s, at, 50120)
+        & rules::within8(s, at, 39, 0, 0)
+        & rules::within16(s, at, 40, 0, 36000)
+}
+
+fn fields4(s: &[u8], at: usize, parameter: u8, site: u16) -> bool
+    ensures { λ r. ⌜ r ≡ meetsAll (now (s .entry)) at (rules4 parameter site) ⌝ }
+{
+    rules::within16(s, at, 6, 0, 0)
+        & rules::within16(s, at, 8, 51022, 51022)
+        & rules::within8(s, at, 10, 15, 15)
+        & rules::within8(s, at, 11, 1, 2)
+        & rules::within8(s, at, 12, 8, 8)
+        & rules::within8(s, at, 13, 1, 1)
+        & rules::within8(s, at, 14, 13, 13)
+        & rules::mode_ok(s, at, 38)
+        & elevation_ok(s, at)
+        & rules::within8(s, at, 11, parameter, parameter)
+        & rules::within16(s, at, 29, site, site)
+}
+
+fn elevation_ok(s: &[u8], at: usize) -> bool
+    ensures { λ r. ⌜ r ≡ meets (now (s .entry)) at (either (magnitude 42 2 9000) (within 42 2 0xFFFF 0xFFFF)) ⌝ }
+{
+    rules::magnitude16(s, at, 42, 9000) | rules::within16(s, at, 42, 0xFFFF, 0xFFFF)
+}
+
+fn fields5(s: &[u8], at: usize, m: u16) -> bool
+    ensures { λ r. ⌜ r ≡ meetsAll (now (s .entry)) at (rules5 m) ⌝ }
+{
+    rules::within16(s, at, 10, 200, 200)
+        & rules::within8(s, at, 12, 8, 8)
+        & rules::within16(s, at, 13, 0, m)
+        & rules::within16(s, at, 15, m, m)
+        & rules::within8(s, at, 17, 2, 2)
 }
 
 fn product_of(parameter: u8) -> Product
@@ -39,7 +104,7 @@ fn product_of(parameter: u8) -> Product
 pub fn product_in(s: &[u8], c: Cut) -> Product
     ensures { λ r. ⌜ r ≡ productIn (now (s .entry)) c ⌝ }
 {
-    product_of(rules::field8(s, c.section4, 11))
+    product_of(rules::parameter_at(s, c.section4))
 }
 
 // The value table of the section 5 at a place, and the data of the section 7 at a place, which lie within the file.
@@ -71,7 +136,7 @@ fn data_at(s: &[u8], at: usize, v: u8, bins: usize) -> bool
 fn judge3(s: &[u8], at: usize) -> Judged
     ensures { λ r. ⌜ r ≡ firstFault (checks3 (now (s .entry)) at) ⌝ }
 {
-    let len = rules::field32(s, at, 1);
+    let len = rules::length_at(s, at);
     let said = rules::wide(rules::field32(s, at, 7));
     let due = rules::points_at(s, at);
     sections::check(
@@ -79,7 +144,7 @@ fn judge3(s: &[u8], at: usize) -> Judged
         Why::SectionLength,
         at,
         sections::check(
-            rules::fields3(s, at),
+            fields3(s, at),
             Why::Field,
             at,
             sections::check(said == due, Why::Points, at, sections::accepted()),
@@ -90,16 +155,16 @@ fn judge3(s: &[u8], at: usize) -> Judged
 fn judge4(s: &[u8], x: Context, at: usize) -> Judged
     ensures { λ r. ⌜ r ≡ firstFault (checks4 (now (s .entry)) x at) ⌝ }
 {
-    let len = rules::wide(rules::field32(s, at, 1));
-    let due = 60 + 4 * rules::wide(rules::field32(s, x.section3, 19));
-    let parameter = rules::field8(s, x.first, 11);
-    let site = rules::field16(s, x.first, 29);
+    let len = rules::wide(rules::length_at(s, at));
+    let due = 60 + 4 * rules::wide(rules::rays_at(s, x.section3));
+    let parameter = rules::parameter_at(s, x.first);
+    let site = site_at(s, x.first);
     sections::check(
         len == due,
         Why::SectionLength,
         at,
         sections::check(
-            rules::fields4(s, at, parameter, site),
+            fields4(s, at, parameter, site),
             Why::Field,
             at,
             sections::accepted(),
@@ -112,13 +177,13 @@ fn judge5_fields(s: &[u8], x: Context, at: usize) -> Judged
     requires { ⌜ (17 ≤ lengthAt (now s) at) × (at + lengthAt (now s) at ≤ length (now s)) ⌝ }
     ensures { λ r. ⌜ r ≡ firstFault (pastLength5 (now (s .entry)) x at) ⌝ }
 {
-    let product = product_of(rules::field8(s, x.section4, 11));
+    let product = product_of(rules::parameter_at(s, x.section4));
     let said = rules::wide(rules::field32(s, at, 6));
     let points = rules::points_at(s, x.section3);
     let m = values::level_count(product) as u16;
     let table = table_at(s, at, product);
     sections::check(
-        rules::fields5(s, at, m),
+        fields5(s, at, m),
         Why::Field,
         at,
         sections::check(
@@ -134,8 +199,8 @@ fn judge5(s: &[u8], x: Context, at: usize) -> Judged
     requires { ⌜ at + lengthAt (now s) at ≤ length (now s) ⌝ }
     ensures { λ r. ⌜ r ≡ firstFault (checks5 (now (s .entry)) x at) ⌝ }
 {
-    let len = rules::field32(s, at, 1);
-    let due = 17 + 2 * wide16(rules::field16(s, at, 15));
+    let len = rules::length_at(s, at);
+    let due = 17 + 2 * wide16(count_at(s, at));
     if len == due {
         judge5_fields(s, x, at)
     } else {
@@ -148,11 +213,11 @@ pub fn judge7(s: &[u8], x: Context, at: usize) -> Judged
     requires { ⌜ pointsAt (now s) (x .section3) ≤ 2097152 ⌝ }
     ensures { λ r. ⌜ r ≡ firstFault (checks7 (now (s .entry)) x at) ⌝ }
 {
-    let len = rules::field32(s, at, 1);
+    let len = rules::length_at(s, at);
     if len < 6 {
         return sections::refused(Why::SectionLength, at);
     }
-    let v = rules::field16(s, x.section5, 13);
+    let v = greatest_at(s, x.section5);
     if 253 < v {
         return sections::refused(Why::V, at);
     }
@@ -167,8 +232,8 @@ pub fn judge7(s: &[u8], x: Context, at: usize) -> Judged
 pub fn judge_any7(s: &[u8], x: Context, at: usize) -> Judged
     ensures { λ r. ⌜ r ≡ firstFault (anyDataChecks7 (now (s .entry)) x at) ⌝ }
 {
-    let len = rules::field32(s, at, 1);
-    let v = rules::field16(s, x.section5, 13);
+    let len = rules::length_at(s, at);
+    let v = greatest_at(s, x.section5);
     let low = sections::check(v <= 253, Why::V, at, sections::accepted());
     sections::check(6 <= len, Why::SectionLength, at, low)
 }

@@ -8,7 +8,7 @@ use borrow.Author.Tests.{eq-eqb, ne-eqb}
 use lib.ListN.{length, getD}
 use Rattle.rules.specs.Fields.{numberAt}
 use Rattle.sections.specs.Verdict.{endOf, noCut}
-use Rattle.sections.specs.Accepted.{Body, Cuts, none, own, shared}
+use Rattle.sections.specs.Accepted.{Body, Cuts, none, new-3, same-3}
 use Rattle.base_format.specs.Accepted.{baseFormat, Accepted}
 use Rattle.sections.specs.declared.Cut.{Cut}
 use Rattle.cuts.specs.After.{endAt, bodyAt, cutAfter}
@@ -31,11 +31,11 @@ module _ (s : List ℕ) (end first : ℕ) where
   -- the cut after c, where the cuts that follow begin at the place past c
   after-one : (s3 at : ℕ) (c d : Cut) (ds : List Cut) → c .section3 ≡ s3 → endAt s (c .section7) ≡ at → Cuts baseFormat s end first s3 at (d ∷ ds) → d ≡ cutAfter s c
   unfolding cutAfter
-  after-one s3 at c d ds e3 e (own {b = b} {next = next} three is body r) =
+  after-one s3 at c d ds e3 e (new-3 {b = b} {next = next} three is body r) =
       let n : numberAt s (endAt s (c .section7)) ≡ 3 = ap (numberAt s) e ∙ three .number in
       let up : b ≡ endAt s at = sym (three .up-to) in
       rw (eq-eqb _ _ n) (body-is at b d next body ∙ (λ i. bodyAt s (sym e i) ((up ∙ ap (endAt s) (sym e)) i)))
-  after-one s3 at c d ds e3 e (shared {next = next} body r) =
+  after-one s3 at c d ds e3 e (same-3 {next = next} body r) =
       let n : numberAt s (endAt s (c .section7)) ≡ 4 = ap (numberAt s) e ∙ body .four .number in
       let ne : numberAt s (endAt s (c .section7)) ≡ 3 → ⊥ = λ z. omega arith in
       rw (ne-eqb _ _ ne) (body-is s3 at d next body ∙ (λ i. bodyAt s (sym e3 i) (sym e i)))
@@ -43,13 +43,13 @@ module _ (s : List ℕ) (end first : ℕ) where
   chain : (s3 at : ℕ) (c : Cut) (cs : List Cut) → c .section3 ≡ s3 → endAt s (c .section7) ≡ at → Cuts baseFormat s end first s3 at cs
       → (i : ℕ) → suc i < length (c ∷ cs) → getD (c ∷ cs) (suc i) noCut ≡ cutAfter s (getD (c ∷ cs) i noCut)
   chain s3 at c cs e3 e none i lt = absurd (not-suc-le-zero (le-of-suc-le-suc lt))
-  chain s3 at c cs e3 e (own {b = b} {next = next} {c = d} {cs = ds} three is body r) zero lt =
-      after-one s3 at c d ds e3 e (own three is body r)
-  chain s3 at c cs e3 e (own {b = b} {next = next} {c = d} {cs = ds} three is body r) (suc i) lt =
+  chain s3 at c cs e3 e (new-3 {b = b} {next = next} {c = d} {cs = ds} three is body r) zero lt =
+      after-one s3 at c d ds e3 e (new-3 three is body r)
+  chain s3 at c cs e3 e (new-3 {b = b} {next = next} {c = d} {cs = ds} three is body r) (suc i) lt =
       chain at next d ds (body-three at b d next body) (body-end at b d next body) r i (le-of-suc-le-suc lt)
-  chain s3 at c cs e3 e (shared {next = next} {c = d} {cs = ds} body r) zero lt =
-      after-one s3 at c d ds e3 e (shared body r)
-  chain s3 at c cs e3 e (shared {next = next} {c = d} {cs = ds} body r) (suc i) lt =
+  chain s3 at c cs e3 e (same-3 {next = next} {c = d} {cs = ds} body r) zero lt =
+      after-one s3 at c d ds e3 e (same-3 body r)
+  chain s3 at c cs e3 e (same-3 {next = next} {c = d} {cs = ds} body r) (suc i) lt =
       chain s3 next d ds (body-three s3 at d next body) (body-end s3 at d next body) r i (le-of-suc-le-suc lt)
 
 pub next-is : (s : List ℕ) (cs : List Cut) → Accepted s cs → (i : ℕ) → suc i < length cs → getD cs (suc i) noCut ≡ cutAfter s (getD cs i noCut)

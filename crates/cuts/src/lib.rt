@@ -27,7 +27,7 @@ pub fn greatest_in(file: &[u8], c: Cut) -> u8
     requires { ⌜ AnyDataCut (now file) c ⌝ }
     ensures { λ r. ⌜ r ≡ greatestIn (now (file .entry)) c ⌝ }
 {
-    rules::field16(file, c.section5, 13) as u8
+    base_format::greatest_at(file, c.section5) as u8
 }
 
 // The data of a cut.
@@ -169,7 +169,7 @@ pub fn next_cut(file: &[u8], c: Cut) -> Cut
     ensures { λ r. ⌜ r ≡ cutAfter (now (file .entry)) c ⌝ }
 {
     let at = sections::end_at(file, c.section7);
-    let own = rules::field8(file, at, 5) == 3;
+    let own = rules::number_at(file, at) == 3;
     let section3 = sections::pick(own, at, c.section3);
     let section4 = sections::pick(own, sections::end_at(file, at), at);
     let section5 = sections::end_at(file, section4);

@@ -15,7 +15,7 @@ ghost use Rattle.rules.specs.Fields.{raysAt, pointsAt};
 ghost use Rattle.scaled.specs.Scaled.{finiteSingle};
 ghost use Rattle.sections.specs.Verdict.{firstFault};
 ghost use Rattle.dual_format.specs.Rules.{rules3, scanRules, rules4, rules5, widthRule};
-ghost use Rattle.dual_format.specs.Fields.{withLists, referenceAt, widthAt, length7};
+ghost use Rattle.dual_format.specs.Fields.{siteAt, withLists, referenceAt, binaryAt, decimalAt, widthAt, length7};
 ghost use Rattle.dual_format.specs.Checks.{checks3, checks4, checks5, checks7, dualChecks};
 
 // The field rules of each section, as one chain of tests without branches.
@@ -68,7 +68,39 @@ fn width_ok(s: &[u8], at: usize) -> bool
 fn packing_ok(s: &[u8], at: usize) -> bool
     ensures { λ r. ⌜ r ≡ (finiteSingle (referenceAt (now (s .entry)) at) && meets (now (s .entry)) at widthRule) ⌝ }
 {
-    scaled::is_finite(rules::field32(s, at, 12)) & width_ok(s, at)
+    scaled::is_finite(reference_at(s, at)) & width_ok(s, at)
+}
+
+// The fields that other sections and the calls go by: each octet number stands here alone.
+
+pub fn site_at(s: &[u8], at: usize) -> u16
+    ensures { λ r. ⌜ r ≡ siteAt (now (s .entry)) at ⌝ }
+{
+    rules::field16(s, at, 28)
+}
+
+pub fn reference_at(s: &[u8], at: usize) -> u32
+    ensures { λ r. ⌜ r ≡ referenceAt (now (s .entry)) at ⌝ }
+{
+    rules::field32(s, at, 12)
+}
+
+pub fn binary_at(s: &[u8], at: usize) -> u16
+    ensures { λ r. ⌜ r ≡ binaryAt (now (s .entry)) at ⌝ }
+{
+    rules::field16(s, at, 16)
+}
+
+pub fn decimal_at(s: &[u8], at: usize) -> u16
+    ensures { λ r. ⌜ r ≡ decimalAt (now (s .entry)) at ⌝ }
+{
+    rules::field16(s, at, 18)
+}
+
+pub fn width_at(s: &[u8], at: usize) -> u8
+    ensures { λ r. ⌜ r ≡ widthAt (now (s .entry)) at ⌝ }
+{
+    rules::field8(s, at, 20)
 }
 
 // The lengths that sections must have.
@@ -84,7 +116,7 @@ fn with_lists(s: &[u8], section3: usize, at: usize, n: u8, k: u8, l: u8) -> u64
     ensures { λ r. ⌜ r ≡ withLists n k l (now (s .entry)) at (raysAt (now (s .entry)) section3) ⌝ }
 {
     let flags = wide8(rules::field8(s, at, k)) + wide8(rules::field8(s, at, l));
-    let rays = rules::wide(rules::field32(s, section3, 19));
+    let rays = rules::wide(rules::rays_at(s, section3));
     wide8(n) + 2 * flags * rays
 }
 
@@ -92,7 +124,7 @@ fn length7_at(s: &[u8], section3: usize, section5: usize) -> u64
     requires { ⌜ pointsAt (now s) section3 ≤ 2097152 ⌝ }
     ensures { λ r. ⌜ r ≡ length7 (pointsAt (now (s .entry)) section3) (widthAt (now (s .entry)) section5) ⌝ }
 {
-    5 + rules::points_at(s, section3) * wide8(rules::field8(s, section5, 20)) / 8
+    5 + rules::points_at(s, section3) * wide8(width_at(s, section5)) / 8
 }
 
 // Each kind of section.
@@ -100,7 +132,7 @@ fn length7_at(s: &[u8], section3: usize, section5: usize) -> u64
 fn judge3(s: &[u8], at: usize) -> Judged
     ensures { λ r. ⌜ r ≡ firstFault (checks3 (now (s .entry)) at) ⌝ }
 {
-    let len = rules::wide(rules::field32(s, at, 1));
+    let len = rules::wide(rules::length_at(s, at));
     let due = with_lists(s, at, at, 58, 53, 54);
     let fields = fields3(s, at);
     let scan = scan_fields(s, at);
@@ -115,10 +147,10 @@ fn judge3(s: &[u8], at: usize) -> Judged
 fn judge4(s: &[u8], x: Context, at: usize) -> Judged
     ensures { λ r. ⌜ r ≡ firstFault (checks4 (now (s .entry)) x at) ⌝ }
 {
-    let len = rules::wide(rules::field32(s, at, 1));
+    let len = rules::wide(rules::length_at(s, at));
     let due = with_lists(s, x.section3, at, 61, 56, 57);
-    let parameter = rules::field8(s, x.first, 11);
-    let site = rules::field16(s, x.first, 28);
+    let parameter = rules::parameter_at(s, x.first);
+    let site = site_at(s, x.first);
     let fields = fields4(s, at, parameter, site);
     let past4 = sections::check(fields, Why::Field, at, sections::accepted());
     sections::check(due <= len, Why::SectionLength, at, past4)
@@ -127,7 +159,7 @@ fn judge4(s: &[u8], x: Context, at: usize) -> Judged
 fn judge5(s: &[u8], x: Context, at: usize) -> Judged
     ensures { λ r. ⌜ r ≡ firstFault (checks5 (now (s .entry)) x at) ⌝ }
 {
-    let len = rules::field32(s, at, 1);
+    let len = rules::length_at(s, at);
     let named = fields5(s, at);
     let packing = packing_ok(s, at);
     let said = rules::wide(rules::field32(s, at, 6));
@@ -142,7 +174,7 @@ pub fn judge7(s: &[u8], x: Context, at: usize) -> Judged
     requires { ⌜ pointsAt (now s) (x .section3) ≤ 2097152 ⌝ }
     ensures { λ r. ⌜ r ≡ firstFault (checks7 (now (s .entry)) x at) ⌝ }
 {
-    let len = rules::wide(rules::field32(s, at, 1));
+    let len = rules::wide(rules::length_at(s, at));
     let due = length7_at(s, x.section3, x.section5);
     sections::check(len == due, Why::SectionLength, at, sections::accepted())
 }

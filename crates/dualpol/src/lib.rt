@@ -45,9 +45,9 @@ fn summary_of(file: &[u8], n: usize, c: Cut) -> DualSummary
     ensures { λ r. ⌜ r ≡ summaryOf (now (file .entry)) n c ⌝ }
 {
     let section4 = c.section4;
-    let parameter = rules::field8(file, section4, 11);
+    let parameter = rules::parameter_at(file, section4);
     let time = sections::time_of(file);
-    let site = rules::field16(file, section4, 28);
+    let site = dual_format::site_at(file, section4);
     DualSummary {
         parameter,
         time,
@@ -100,10 +100,10 @@ fn told_in(file: &[u8], c: Cut, ray: usize, bin: usize) -> Cell
     ensures near { λ r. ⌜ RightCell r (referenceIn (now (file .entry)) c) (cellIn (now (file .entry)) c ray bin) (binaryIn (now (file .entry)) c) (decimalIn (now (file .entry)) c) ⌝ }
 {
     let section5 = c.section5;
-    let r = rules::field32(file, section5, 12);
-    let e = rules::field16(file, section5, 16);
-    let d = rules::field16(file, section5, 18);
-    let width = rules::field8(file, section5, 20);
+    let r = dual_format::reference_at(file, section5);
+    let e = dual_format::binary_at(file, section5);
+    let d = dual_format::decimal_at(file, section5);
+    let width = dual_format::width_at(file, section5);
     let n = ray * sections::bins_in(file, c) + bin;
     scaled::cell_of(r, e, d, width, cell_at(file, c.section7, width, n))
 }

@@ -4,7 +4,8 @@ use mathlib.Core.Path.{_≡_, refl, sym, _∙_, ap}
 use mathlib.Core.List.{List}
 use native.Mathlib.Omega.{arith}
 use lib.ListN.{length, getD}
-use Rattle.rules.specs.Fields.{parameterAt, siteAt}
+use Rattle.rules.specs.Fields.{parameterAt}
+use Rattle.base_format.specs.Fields.{siteAt}
 use Rattle.sections.specs.Accepted.{sectionAt}
 use Rattle.sections.specs.Verdict.{noCut}
 use Rattle.sections.specs.declared.Cut.{Cut}

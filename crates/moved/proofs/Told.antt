@@ -6,7 +6,8 @@ use native.Mathlib.Omega.{arith}
 use lib.ListN.{length, getD, drop}
 use lib.IntN.{ℤ}
 use Rattle.rules.specs.Rules.{field}
-use Rattle.rules.specs.Fields.{binsAt, raysAt, parameterAt, siteAt, greatestAt}
+use Rattle.rules.specs.Fields.{binsAt, raysAt, parameterAt}
+use Rattle.base_format.specs.Fields.{siteAt, greatestAt}
 use Rattle.runs.specs.Run.{levels}
 use Rattle.sections.specs.Verdict.{noCut}
 use Rattle.sections.specs.Parts.{binsIn, raysIn, gridAt}

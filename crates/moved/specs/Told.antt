@@ -3,7 +3,8 @@ use Prim.Native.Nat.{ℕ, _+_, _*_}
 use mathlib.Core.List.{List}
 use lib.ListN.{drop}
 use lib.IntN.{ℤ}
-use Rattle.rules.specs.Fields.{binsAt, raysAt, parameterAt, greatestAt}
+use Rattle.rules.specs.Fields.{binsAt, raysAt, parameterAt}
+use Rattle.base_format.specs.Fields.{greatestAt}
 use Rattle.runs.specs.Run.{levels}
 use Rattle.values.specs.declared.Product.{Product}
 use Rattle.base_format.specs.Parts.{productOf}

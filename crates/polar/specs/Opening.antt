@@ -5,7 +5,7 @@ use mathlib.Core.Bool.{cond}
 use lib.Dec.{eqb}
 use Rattle.octets.specs.Octets.{signed}
 use Rattle.rules.specs.Rules.{field}
-use Rattle.rules.specs.Fields.{siteAt}
+use Rattle.base_format.specs.Fields.{siteAt}
 use Rattle.sections.specs.Parts.{timeOf, gridAt}
 use Rattle.base_format.specs.Parts.{productIn}
 use Rattle.base_format.specs.Verdict.{verdict}

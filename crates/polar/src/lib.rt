@@ -72,7 +72,7 @@ fn summary_of(file: &[u8], n: usize, c: Cut) -> Summary
     let section4 = c.section4;
     let product = base_format::product_in(file, c);
     let time = sections::time_of(file);
-    let site = rules::field16(file, section4, 29);
+    let site = base_format::site_at(file, section4);
     Summary {
         product,
         time,

@@ -41,7 +41,7 @@ fn start_in(file: &[u8], c: Cut) -> Pace
     let at = c.section7;
     let v = cuts::greatest_in(file, c);
     let nb = sections::bins_in(file, c);
-    let len = rules::field32(file, at, 1);
+    let len = rules::length_at(file, at);
     index::at_front(at + 5, at + len as usize, v, nb)
 }
 

@@ -8,8 +8,8 @@ use native.Mathlib.Nat.{not-suc-le-zero, le-of-suc-le-suc, le-antisymm, mul-le-m
 use borrow.Author.Tests.{leb-true, le-leb}
 use lib.ListN.{length, getD}
 use lib.Dec.{leb}
-use Rattle.rules.specs.Rules.{Rule, within, is, field, meets, meetsAll, gridRules, rules4, rules5}
-use Rattle.rules.specs.Fields.{binsAt, raysAt, pointsAt, parameterAt, greatestAt}
+use Rattle.rules.specs.Rules.{Rule, within, is, field, meets, meetsAll, gridRules}
+use Rattle.rules.specs.Fields.{binsAt, raysAt, pointsAt}
 use Rattle.rules.proofs.Chains.{and-true-both}
 
 pub nth-rule : (s : List ℕ) (at : ℕ) (rs : List Rule) (d : Rule) → meetsAll s at rs ≡ true → (i : ℕ) → i < length rs → meets s at (getD rs i d) ≡ true
@@ -46,13 +46,3 @@ module _ (s : List ℕ) (at : ℕ) where
   pub points-bound : (template : ℕ) (rest : List Rule) → meetsAll s at (gridRules template ++ rest) ≡ true → pointsAt s at ≤ 2097152
   unfolding pointsAt
   points-bound template rest h = mul-le-mul (bins-bound template rest h .1) (rays-bound template rest h .1)
-
-  -- section 4: parameter 1 or 2
-  pub parameter-bound : (product site : ℕ) → meetsAll s at (rules4 product site) ≡ true → (1 ≤ parameterAt s at) × (parameterAt s at ≤ 2)
-  unfolding rules4 parameterAt
-  parameter-bound product site h = within-is s at 11 1 1 2 (nth-rule s at (rules4 product site) (is 0 0 0) h 3 (omega arith))
-
-  -- section 5 of a product with m levels: V is at most m, and M is m
-  pub greatest-bound : (m : ℕ) → meetsAll s at (rules5 m) ≡ true → greatestAt s at ≤ m
-  unfolding rules5 greatestAt
-  greatest-bound m h = within-is s at 13 2 0 m (nth-rule s at (rules5 m) (is 0 0 0) h 2 (omega arith)) .1

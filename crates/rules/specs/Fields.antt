@@ -20,16 +20,6 @@ raysAt s at = field s at 19 4
 unfoldable pub pointsAt : List ℕ → ℕ → ℕ
 pointsAt s at = binsAt s at * raysAt s at
 
--- section 4: the product's parameter and the site number
+-- section 4: the product's parameter
 unfoldable pub parameterAt : List ℕ → ℕ → ℕ
 parameterAt s at = field s at 11 1
-
-unfoldable pub siteAt : List ℕ → ℕ → ℕ
-siteAt s at = field s at 29 2
-
--- section 5: V, and M as read
-unfoldable pub greatestAt : List ℕ → ℕ → ℕ
-greatestAt s at = field s at 13 2
-
-unfoldable pub countAt : List ℕ → ℕ → ℕ
-countAt s at = field s at 15 2

@@ -4,8 +4,8 @@ ghost use mathlib.Core.Path.{_≡_};
 ghost use Prim.Native.Nat.{ℕ};
 ghost use lib.ListN.{length};
 ghost use Rattle.octets.specs.Octets.{be};
-ghost use Rattle.rules.specs.Rules.{field, meets, meetsAll, within, magnitude, either, rules0, rules1, gridRules, modeRule, rules3, rules4, rules5, rules6, rules8};
-ghost use Rattle.rules.specs.Fields.{pointsAt};
+ghost use Rattle.rules.specs.Rules.{field, meets, meetsAll, within, magnitude, rules0, rules1, gridRules, modeRule, rules6, rules8};
+ghost use Rattle.rules.specs.Fields.{lengthAt, numberAt, binsAt, raysAt, pointsAt, parameterAt};
 
 // Fields by octet, counted from 1 inside a section. No call has a condition: what is past the end reads as 0.
 
@@ -72,7 +72,7 @@ fn within64(s: &[u8], at: usize, k: u8, lo: u64, hi: u64) -> bool
     (lo <= n) & (n <= hi)
 }
 
-fn magnitude16(s: &[u8], at: usize, k: u8, m: u16) -> bool
+pub fn magnitude16(s: &[u8], at: usize, k: u8, m: u16) -> bool
     ensures { λ r. ⌜ r ≡ meets (now (s .entry)) at (magnitude k 2 m) ⌝ }
 {
     field16(s, at, k) % 32768 <= m
@@ -127,49 +127,11 @@ pub fn grid_fields(s: &[u8], at: usize, template: u16) -> bool
         & within32(s, at, 31, 1, 0xFFFFFFFF)
 }
 
-pub fn fields3(s: &[u8], at: usize) -> bool
-    ensures { λ r. ⌜ r ≡ meetsAll (now (s .entry)) at rules3 ⌝ }
-{
-    grid_fields(s, at, 50120) & within8(s, at, 39, 0, 0) & within16(s, at, 40, 0, 36000)
-}
-
-pub fn fields4(s: &[u8], at: usize, product: u8, site: u16) -> bool
-    ensures { λ r. ⌜ r ≡ meetsAll (now (s .entry)) at (rules4 product site) ⌝ }
-{
-    within16(s, at, 6, 0, 0)
-        & within16(s, at, 8, 51022, 51022)
-        & within8(s, at, 10, 15, 15)
-        & within8(s, at, 11, 1, 2)
-        & within8(s, at, 12, 8, 8)
-        & within8(s, at, 13, 1, 1)
-        & within8(s, at, 14, 13, 13)
-        & mode_ok(s, at, 38)
-        & elevation_ok(s, at)
-        & within8(s, at, 11, product, product)
-        & within16(s, at, 29, site, site)
-}
-
 // An octet that is 0, 1, 2 or 255.
 pub fn mode_ok(s: &[u8], at: usize, k: u8) -> bool
     ensures { λ r. ⌜ r ≡ meets (now (s .entry)) at (modeRule k) ⌝ }
 {
     within8(s, at, k, 0, 2) | within8(s, at, k, 255, 255)
-}
-
-fn elevation_ok(s: &[u8], at: usize) -> bool
-    ensures { λ r. ⌜ r ≡ meets (now (s .entry)) at (either (magnitude 42 2 9000) (within 42 2 0xFFFF 0xFFFF)) ⌝ }
-{
-    magnitude16(s, at, 42, 9000) | within16(s, at, 42, 0xFFFF, 0xFFFF)
-}
-
-pub fn fields5(s: &[u8], at: usize, m: u16) -> bool
-    ensures { λ r. ⌜ r ≡ meetsAll (now (s .entry)) at (rules5 m) ⌝ }
-{
-    within16(s, at, 10, 200, 200)
-        & within8(s, at, 12, 8, 8)
-        & within16(s, at, 13, 0, m)
-        & within16(s, at, 15, m, m)
-        & within8(s, at, 17, 2, 2)
 }
 
 pub fn fields6(s: &[u8], at: usize) -> bool
@@ -184,11 +146,43 @@ pub fn fields8(s: &[u8], at: usize) -> bool
     within32(s, at, 1, 0x37373737, 0x37373737)
 }
 
+// The fields that other sections and the calls go by: each octet number stands here alone.
+
+pub fn length_at(s: &[u8], at: usize) -> u32
+    ensures { λ r. ⌜ r ≡ lengthAt (now (s .entry)) at ⌝ }
+{
+    field32(s, at, 1)
+}
+
+pub fn number_at(s: &[u8], at: usize) -> u8
+    ensures { λ r. ⌜ r ≡ numberAt (now (s .entry)) at ⌝ }
+{
+    field8(s, at, 5)
+}
+
+pub fn bins_at(s: &[u8], at: usize) -> u32
+    ensures { λ r. ⌜ r ≡ binsAt (now (s .entry)) at ⌝ }
+{
+    field32(s, at, 15)
+}
+
+pub fn rays_at(s: &[u8], at: usize) -> u32
+    ensures { λ r. ⌜ r ≡ raysAt (now (s .entry)) at ⌝ }
+{
+    field32(s, at, 19)
+}
+
+pub fn parameter_at(s: &[u8], at: usize) -> u8
+    ensures { λ r. ⌜ r ≡ parameterAt (now (s .entry)) at ⌝ }
+{
+    field8(s, at, 11)
+}
+
 // Nb x Nr, by the section 3 at a place.
 pub fn points_at(s: &[u8], at: usize) -> u64
     ensures { λ r. ⌜ r ≡ pointsAt (now (s .entry)) at ⌝ }
 {
-    wide(field32(s, at, 15)) * wide(field32(s, at, 19))
+    wide(bins_at(s, at)) * wide(rays_at(s, at))
 }
 
 pub fn wide(x: u32) -> u64

@@ -163,7 +163,7 @@ pub fn end_at(s: &[u8], at: usize) -> usize
     ensures { λ r. ⌜ r ≡ at + lengthAt (now (s .entry)) at ⌝ }
 {
     if at < s.len() {
-        at + place(rules::field32(s, at, 1))
+        at + place(rules::length_at(s, at))
     } else {
         at
     }
@@ -194,20 +194,20 @@ pub fn time_of(s: &[u8]) -> Time
 pub fn bins_in(s: &[u8], c: Cut) -> usize
     ensures { λ r. ⌜ r ≡ binsIn (now (s .entry)) c ⌝ }
 {
-    place(rules::field32(s, c.section3, 15))
+    place(rules::bins_at(s, c.section3))
 }
 
 pub fn rays_in(s: &[u8], c: Cut) -> usize
     ensures { λ r. ⌜ r ≡ raysIn (now (s .entry)) c ⌝ }
 {
-    place(rules::field32(s, c.section3, 19))
+    place(rules::rays_at(s, c.section3))
 }
 
 pub fn grid_at(s: &[u8], at: usize) -> Grid
     ensures { λ r. ⌜ r ≡ gridAt (now (s .entry)) at ⌝ }
 {
-    let nb = rules::field32(s, at, 15);
-    let nr = rules::field32(s, at, 19);
+    let nb = rules::bins_at(s, at);
+    let nr = rules::rays_at(s, at);
     let latitude = octets::signed32(rules::field32(s, at, 23));
     let longitude = rules::field32(s, at, 27);
     let dx = rules::field32(s, at, 31);
@@ -247,15 +247,15 @@ fn may_follow(p: u8, n: u8) -> bool
 pub fn is_framed(s: &[u8], end: usize, x: Context, at: usize) -> bool
     ensures { λ r. ⌜ r ≡ framed (now (s .entry)) end x at ⌝ }
 {
-    let len = place(rules::field32(s, at, 1));
-    let n = rules::field8(s, at, 5);
+    let len = place(rules::length_at(s, at));
+    let n = rules::number_at(s, at);
     ends_by(at, 5, end) & ((5 <= len) & (ends_by(at, len, end) & may_follow(x.previous, n)))
 }
 
 pub fn has_room(s: &[u8], x: Context, at: usize) -> bool
     ensures { λ r. ⌜ r ≡ roomForCut (now (s .entry)) x at ⌝ }
 {
-    let n = rules::field8(s, at, 5);
+    let n = rules::number_at(s, at);
     !((64 <= x.cuts) & ((n == 3) | (n == 4)))
 }
 
@@ -271,7 +271,7 @@ pub fn is_closed(s: &[u8], x: Context, at: usize) -> bool
 pub fn judge1(s: &[u8], at: usize) -> Judged
     ensures { λ r. ⌜ r ≡ firstFault (checks1 (now (s .entry)) at) ⌝ }
 {
-    let len = rules::field32(s, at, 1);
+    let len = rules::length_at(s, at);
     let fields1 = rules::fields1(s, at);
     let past = check(fields1, Why::Field, at, accepted());
     check(len == 21, Why::SectionLength, at, past)
@@ -280,7 +280,7 @@ pub fn judge1(s: &[u8], at: usize) -> Judged
 pub fn judge6(s: &[u8], at: usize) -> Judged
     ensures { λ r. ⌜ r ≡ firstFault (checks6 (now (s .entry)) at) ⌝ }
 {
-    let len = rules::field32(s, at, 1);
+    let len = rules::length_at(s, at);
     let fields6 = rules::fields6(s, at);
     let past = check(fields6, Why::Field, at, accepted());
     check(len == 6, Why::SectionLength, at, past)

@@ -139,7 +139,7 @@ fn judge_here(format: ReadAs, s: &[u8], end: usize, x: Context, at: usize) -> Ju
         );
     }
     if sections::is_framed(s, end, x, at) {
-        let n = rules::field8(s, at, 5);
+        let n = rules::number_at(s, at);
         if n == 7 {
             return judge7(format, s, x, at);
         }
@@ -188,8 +188,8 @@ fn one_step(format: ReadAs, s: &[u8], end: usize, st: State) -> Step
             }
             Step::Next(passed(
                 st,
-                rules::field8(s, at, 5),
-                sections::place(rules::field32(s, at, 1)),
+                rules::number_at(s, at),
+                sections::place(rules::length_at(s, at)),
             ))
         }
     }

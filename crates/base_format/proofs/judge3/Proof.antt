@@ -4,11 +4,11 @@ use borrow.Author.Needs.{needs}
 use Rattle.base_format.proofs.judge3.Statement.{statement}
 use Rattle.base_format.proofs.judge3.Tie as tie
 
+length-at-requires : tie.Need-length-at-requires
+length-at-requires c κs = search needs
+
 field32-requires : tie.Need-field32-requires
 field32-requires c κs = search needs
-
-field32-requires-2 : tie.Need-field32-requires-2
-field32-requires-2 c κs = search needs
 
 wide-requires : tie.Need-wide-requires
 wide-requires c κs = search needs
@@ -44,16 +44,16 @@ returns c = let fields = c .before .before .before .before in
       fields .fields3 .ensures,
       points .points-at .ensures,
       points .before .wide .ensures,
-      points .before .before .field322 .ensures,
-      len .field32 .ensures,
+      points .before .before .field32 .ensures,
+      len .length-at .ensures,
     )
 
 pub judge3-spec : {M : Type 1} → statement M
 judge3-spec =
     tie.close
     (tie.spec
+    length-at-requires
     field32-requires
-    field32-requires-2
     wide-requires
     points-at-requires
     fields3-requires

@@ -1,5 +1,6 @@
 -- The length is tested first, since the table can only be lent where it is right.
-use Rattle.rules.specs.Fields.{lengthAt, countAt}
+use Rattle.rules.specs.Fields.{lengthAt}
+use Rattle.base_format.specs.Fields.{countAt}
 use borrow.Author.Tests.{eq-eqb, ne-eqb}
 use denote.Ref.{now}
 use native.Mathlib.Omega.{arith}
@@ -9,11 +10,11 @@ use borrow.Author.Needs.{needs}
 use Rattle.base_format.proofs.judge5.Statement.{statement}
 use Rattle.base_format.proofs.judge5.Tie as tie
 
-field32-requires : tie.Need-field32-requires
-field32-requires c κs = search needs
+length-at-requires : tie.Need-length-at-requires
+length-at-requires c κs = search needs
 
-field16-requires : tie.Need-field16-requires
-field16-requires c κs = search needs
+count-at-requires : tie.Need-count-at-requires
+count-at-requires c κs = search needs
 
 wide16-requires : tie.Need-wide16-requires
 wide16-requires c κs = search needs
@@ -27,7 +28,7 @@ add-due c = search needs
 judge5-fields-requires : tie.Need-judge5-fields-requires
 unfolding lengthAt
 judge5-fields-requires c κs = let a = c .before .before .before .before .before .args in
-    let e = sym (c .before .before .before .field32 .ensures) ∙ c .if1 .taken in
+    let e = sym (c .before .before .before .length-at .ensures) ∙ c .if1 .taken in
     (omega arith, c .before .before .before .before .before .pre)
 
 returns : tie.Need-returns
@@ -50,8 +51,8 @@ pub judge5-spec : {M : Type 1} → statement M
 judge5-spec =
     tie.close
     (tie.spec
-    field32-requires
-    field16-requires
+    length-at-requires
+    count-at-requires
     wide16-requires
     mul-due
     add-due

@@ -6,8 +6,8 @@ use borrow.Author.Needs.{needs}
 use Rattle.base_format.proofs.judge5_fields.Statement.{statement}
 use Rattle.base_format.proofs.judge5_fields.Tie as tie
 
-field8-requires : tie.Need-field8-requires
-field8-requires c κs = search needs
+parameter-at-requires : tie.Need-parameter-at-requires
+parameter-at-requires c κs = search needs
 
 product-of-requires : tie.Need-product-of-requires
 product-of-requires c κs = search needs
@@ -47,13 +47,13 @@ check-requires-3 c κs = search needs
 
 returns : tie.Need-returns
 unfolding parameterAt
-returns c = rw (c .check3 .ensures, c .before .check2 .ensures, c .before .before .check .ensures, c .before .before .before .accepted .ensures, c .before .before .before .before .fields5 .ensures, c .before .before .before .before .before .table-at .ensures, c .before .before .before .before .before .before .level-count .ensures, c .before .before .before .before .before .before .before .points-at .ensures, c .before .before .before .before .before .before .before .before .wide .ensures, c .before .before .before .before .before .before .before .before .before .field32 .ensures, c .before .before .before .before .before .before .before .before .before .before .product-of .ensures, c .before .before .before .before .before .before .before .before .before .before .before .field8 .ensures)
+returns c = rw (c .check3 .ensures, c .before .check2 .ensures, c .before .before .check .ensures, c .before .before .before .accepted .ensures, c .before .before .before .before .fields5 .ensures, c .before .before .before .before .before .table-at .ensures, c .before .before .before .before .before .before .level-count .ensures, c .before .before .before .before .before .before .before .points-at .ensures, c .before .before .before .before .before .before .before .before .wide .ensures, c .before .before .before .before .before .before .before .before .before .field32 .ensures, c .before .before .before .before .before .before .before .before .before .before .product-of .ensures, c .before .before .before .before .before .before .before .before .before .before .before .parameter-at .ensures)
 
 pub judge5-fields-spec : {M : Type 1} → statement M
 judge5-fields-spec =
     tie.close
     (tie.spec
-    field8-requires
+    parameter-at-requires
     product-of-requires
     field32-requires
     wide-requires

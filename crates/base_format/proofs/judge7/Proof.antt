@@ -1,7 +1,8 @@
 -- Length, V and data, each with its own way out.
 use Rattle.base_format.specs.Parts.{dataAt}
 use Rattle.runs.specs.Run.{gives}
-use Rattle.rules.specs.Fields.{lengthAt, greatestAt}
+use Rattle.rules.specs.Fields.{lengthAt}
+use Rattle.base_format.specs.Fields.{greatestAt}
 use borrow.Author.Tests.{lt-leb, le-leb}
 use denote.Ref.{now}
 use native.Mathlib.Omega.{arith}
@@ -11,8 +12,8 @@ use borrow.Author.Needs.{needs}
 use Rattle.base_format.proofs.judge7.Statement.{statement}
 use Rattle.base_format.proofs.judge7.Tie as tie
 
-field32-requires : tie.Need-field32-requires
-field32-requires c κs = search needs
+length-at-requires : tie.Need-length-at-requires
+length-at-requires c κs = search needs
 
 refused-requires : tie.Need-refused-requires
 refused-requires c κs = search needs
@@ -20,11 +21,11 @@ refused-requires c κs = search needs
 returns : tie.Need-returns
 unfolding lengthAt
 returns c = let a = c .before .before .before .before .args in
-    let short : lengthAt (now (a .s)) (a .at) < 6 = omega (arith, c .before .before .field32 .ensures) in
+    let short : lengthAt (now (a .s)) (a .at) < 6 = omega (arith, c .before .before .length-at .ensures) in
     rw (lt-leb 6 _ short) (c .refused .ensures)
 
-field16-requires : tie.Need-field16-requires
-field16-requires c κs = search needs
+greatest-at-requires : tie.Need-greatest-at-requires
+greatest-at-requires c κs = search needs
 
 refused-requires-2 : tie.Need-refused-requires-2
 refused-requires-2 c κs = search needs
@@ -32,8 +33,8 @@ refused-requires-2 c κs = search needs
 returns-2 : tie.Need-returns-2
 unfolding lengthAt greatestAt
 returns-2 c = let a = c .before .before .before .before .before .before .args in
-    let long : 6 ≤ lengthAt (now (a .s)) (a .at) = omega (arith, c .before .before .before .before .field32 .ensures) in
-    let over : 253 < greatestAt (now (a .s)) (a .x .section5) = omega (arith, c .before .before .field16 .ensures) in
+    let long : 6 ≤ lengthAt (now (a .s)) (a .at) = omega (arith, c .before .before .before .before .length-at .ensures) in
+    let over : 253 < greatestAt (now (a .s)) (a .x .section5) = omega (arith, c .before .before .greatest-at .ensures) in
     rw (le-leb 6 _ long, lt-leb _ 253 over) (c .refused2 .ensures)
 
 points-at-requires : tie.Need-points-at-requires
@@ -45,16 +46,16 @@ cast-data-at c = search needs
 data-at-requires : tie.Need-data-at-requires
 unfolding lengthAt
 data-at-requires c κs = let a = c .before .before .before .before .before .before .args in
-    let long : 5 ≤ lengthAt (now (a .s)) (a .at) = omega (arith, c .before .before .before .before .field32 .ensures) in
+    let long : 5 ≤ lengthAt (now (a .s)) (a .at) = omega (arith, c .before .before .before .before .length-at .ensures) in
     ((long, c .before .before .before .before .before .before .pre .0), (omega arith, omega (arith, c .points-at .ensures, c .before .before .before .before .before .before .pre .1)))
 
 returns-3 : tie.Need-returns-3
 unfolding lengthAt greatestAt
 returns-3 c = let a = c .before .before .before .before .before .before .before .before .args in
     let s = now (a .s) in
-    let long : 6 ≤ lengthAt s (a .at) = omega (arith, c .before .before .before .before .before .before .field32 .ensures) in
-    let under : greatestAt s (a .x .section5) ≤ 253 = omega (arith, c .before .before .before .before .field16 .ensures) in
-    let v = sym (c .before .before .before .before .field16 .ensures) in
+    let long : 6 ≤ lengthAt s (a .at) = omega (arith, c .before .before .before .before .before .before .length-at .ensures) in
+    let under : greatestAt s (a .x .section5) ≤ 253 = omega (arith, c .before .before .before .before .greatest-at .ensures) in
+    let v = sym (c .before .before .before .before .greatest-at .ensures) in
     let bins = sym (c .before .before .points-at .ensures) in
     rw (le-leb 6 _ long, le-leb _ 253 under, (λ i. gives (v i) (bins i) (dataAt s (a .at))) ∙ sym (c .before .data-at .ensures) ∙ c .if3 .taken)
 
@@ -65,9 +66,9 @@ returns-4 : tie.Need-returns-4
 unfolding lengthAt greatestAt
 returns-4 c = let a = c .before .before .before .before .before .before .before .before .before .args in
     let s = now (a .s) in
-    let long : 6 ≤ lengthAt s (a .at) = omega (arith, c .before .before .before .before .before .before .before .field32 .ensures) in
-    let under : greatestAt s (a .x .section5) ≤ 253 = omega (arith, c .before .before .before .before .before .field16 .ensures) in
-    let v = sym (c .before .before .before .before .before .field16 .ensures) in
+    let long : 6 ≤ lengthAt s (a .at) = omega (arith, c .before .before .before .before .before .before .before .length-at .ensures) in
+    let under : greatestAt s (a .x .section5) ≤ 253 = omega (arith, c .before .before .before .before .before .greatest-at .ensures) in
+    let v = sym (c .before .before .before .before .before .greatest-at .ensures) in
     let bins = sym (c .before .before .before .points-at .ensures) in
     rw (le-leb 6 _ long, le-leb _ 253 under, (λ i. gives (v i) (bins i) (dataAt s (a .at))) ∙ sym (c .before .before .data-at .ensures) ∙ c .before .if3 .left) (c .refused3 .ensures)
 
@@ -75,10 +76,10 @@ pub judge7-spec : {M : Type 1} → statement M
 judge7-spec =
     tie.close
     (tie.spec
-    field32-requires
+    length-at-requires
     refused-requires
     returns
-    field16-requires
+    greatest-at-requires
     refused-requires-2
     returns-2
     points-at-requires

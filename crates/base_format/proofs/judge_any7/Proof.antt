@@ -1,14 +1,15 @@
 -- The checks as a chain of `check` are the first that fails.
-use Rattle.rules.specs.Fields.{lengthAt, greatestAt}
+use Rattle.rules.specs.Fields.{lengthAt}
+use Rattle.base_format.specs.Fields.{greatestAt}
 use borrow.Author.Needs.{needs}
 use Rattle.base_format.proofs.judge_any7.Statement.{statement}
 use Rattle.base_format.proofs.judge_any7.Tie as tie
 
-field32-requires : tie.Need-field32-requires
-field32-requires c κs = search needs
+length-at-requires : tie.Need-length-at-requires
+length-at-requires c κs = search needs
 
-field16-requires : tie.Need-field16-requires
-field16-requires c κs = search needs
+greatest-at-requires : tie.Need-greatest-at-requires
+greatest-at-requires c κs = search needs
 
 accepted-requires : tie.Need-accepted-requires
 accepted-requires c κs = search needs
@@ -27,8 +28,8 @@ pub judge-any7-spec : {M : Type 1} → statement M
 judge-any7-spec =
     tie.close
     (tie.spec
-    field32-requires
-    field16-requires
+    length-at-requires
+    greatest-at-requires
     accepted-requires
     check-requires
     check-requires-2

@@ -7,8 +7,8 @@ use Rattle.base_format.proofs.product_in.Statement.{statement}
 use Rattle.base_format.proofs.product_in.Tie as tie
 
 -- src/lib.rt:141:16
-field8-requires : tie.Need-field8-requires
-field8-requires c κs = search needs
+parameter-at-requires : tie.Need-parameter-at-requires
+parameter-at-requires c κs = search needs
 
 -- src/lib.rt:141:5
 product-of-requires : tie.Need-product-of-requires
@@ -17,7 +17,7 @@ product-of-requires c κs = search needs
 -- src/lib.rt:138:1
 returns : tie.Need-returns
 unfolding productIn parameterAt
-returns c = c .product-of .ensures ∙ ap productOf (c .before .field8 .ensures)
+returns c = c .product-of .ensures ∙ ap productOf (c .before .parameter-at .ensures)
 
 pub product-in-spec : {M : Type 1} → statement M
-product-in-spec = tie.close (tie.spec field8-requires product-of-requires returns)
+product-in-spec = tie.close (tie.spec parameter-at-requires product-of-requires returns)

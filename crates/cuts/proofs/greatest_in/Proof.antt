@@ -2,21 +2,21 @@
 use Rattle.cuts.proofs.Places.{greatest-small}
 use native.Mathlib.Omega.{arith}
 use Rattle.base_format.specs.Parts.{greatestIn}
-use Rattle.rules.specs.Fields.{greatestAt}
+use Rattle.base_format.specs.Fields.{greatestAt}
 use borrow.Author.Needs.{needs}
 use Rattle.cuts.proofs.greatest_in.Statement.{statement}
 use Rattle.cuts.proofs.greatest_in.Tie as tie
 
-field16-requires : tie.Need-field16-requires
-field16-requires c κs = search needs
+greatest-at-requires : tie.Need-greatest-at-requires
+greatest-at-requires c κs = search needs
 
 cast-result : tie.Need-cast-result
 unfolding greatestIn greatestAt
-cast-result c = let small = greatest-small _ _ (c .before .before .pre) in record { fits = omega (arith, c .field16 .ensures, small) }
+cast-result c = let small = greatest-small _ _ (c .before .before .pre) in record { fits = omega (arith, c .greatest-at .ensures, small) }
 
 returns : tie.Need-returns
 unfolding greatestIn greatestAt
-returns c = c .field16 .ensures
+returns c = c .greatest-at .ensures
 
 pub greatest-in-spec : {M : Type 1} → statement M
-greatest-in-spec = tie.close (tie.spec field16-requires cast-result returns)
+greatest-in-spec = tie.close (tie.spec greatest-at-requires cast-result returns)

@@ -8,8 +8,8 @@ use Rattle.cuts.proofs.next_cut.Tie as tie
 end-at-requires : tie.Need-end-at-requires
 end-at-requires c κs = search needs
 
-field8-requires : tie.Need-field8-requires
-field8-requires c κs = search needs
+number-at-requires : tie.Need-number-at-requires
+number-at-requires c κs = search needs
 
 pick-requires : tie.Need-pick-requires
 pick-requires c κs = search needs
@@ -38,7 +38,7 @@ next-cut-spec =
     tie.close
     (tie.spec
     end-at-requires
-    field8-requires
+    number-at-requires
     pick-requires
     end-at-requires-2
     pick-requires-2

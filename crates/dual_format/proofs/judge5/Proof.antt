@@ -4,8 +4,8 @@ use borrow.Author.Needs.{needs}
 use Rattle.dual_format.proofs.judge5.Statement.{statement}
 use Rattle.dual_format.proofs.judge5.Tie as tie
 
-field32-requires : tie.Need-field32-requires
-field32-requires c κs = search needs
+length-at-requires : tie.Need-length-at-requires
+length-at-requires c κs = search needs
 
 fields5-requires : tie.Need-fields5-requires
 fields5-requires c κs = search needs
@@ -13,8 +13,8 @@ fields5-requires c κs = search needs
 packing-ok-requires : tie.Need-packing-ok-requires
 packing-ok-requires c κs = search needs
 
-field32-requires-2 : tie.Need-field32-requires-2
-field32-requires-2 c κs = search needs
+field32-requires : tie.Need-field32-requires
+field32-requires c κs = search needs
 
 wide-requires : tie.Need-wide-requires
 wide-requires c κs = search needs
@@ -39,16 +39,16 @@ check-requires-4 c κs = search needs
 
 returns : tie.Need-returns
 unfolding lengthAt
-returns c = rw (c .check4 .ensures, c .before .check3 .ensures, c .before .before .check2 .ensures, c .before .before .before .check .ensures, c .before .before .before .before .accepted .ensures, c .before .before .before .before .before .points-at .ensures, c .before .before .before .before .before .before .wide .ensures, c .before .before .before .before .before .before .before .field322 .ensures, c .before .before .before .before .before .before .before .before .packing-ok .ensures, c .before .before .before .before .before .before .before .before .before .fields5 .ensures, c .before .before .before .before .before .before .before .before .before .before .field32 .ensures)
+returns c = rw (c .check4 .ensures, c .before .check3 .ensures, c .before .before .check2 .ensures, c .before .before .before .check .ensures, c .before .before .before .before .accepted .ensures, c .before .before .before .before .before .points-at .ensures, c .before .before .before .before .before .before .wide .ensures, c .before .before .before .before .before .before .before .field32 .ensures, c .before .before .before .before .before .before .before .before .packing-ok .ensures, c .before .before .before .before .before .before .before .before .before .fields5 .ensures, c .before .before .before .before .before .before .before .before .before .before .length-at .ensures)
 
 pub judge5-spec : {M : Type 1} → statement M
 judge5-spec =
     tie.close
     (tie.spec
-    field32-requires
+    length-at-requires
     fields5-requires
     packing-ok-requires
-    field32-requires-2
+    field32-requires
     wide-requires
     points-at-requires
     accepted-requires

@@ -4,8 +4,8 @@ use borrow.Author.Needs.{needs}
 use Rattle.dual_format.proofs.judge7.Statement.{statement}
 use Rattle.dual_format.proofs.judge7.Tie as tie
 
-field32-requires : tie.Need-field32-requires
-field32-requires c κs = search needs
+length-at-requires : tie.Need-length-at-requires
+length-at-requires c κs = search needs
 
 wide-requires : tie.Need-wide-requires
 wide-requires c κs = search needs
@@ -27,7 +27,7 @@ pub judge7-spec : {M : Type 1} → statement M
 judge7-spec =
     tie.close
     (tie.spec
-    field32-requires
+    length-at-requires
     wide-requires
     length7-at-requires
     accepted-requires

@@ -9,8 +9,8 @@ use Rattle.dual_format.proofs.length7_at.Tie as tie
 points-at-requires : tie.Need-points-at-requires
 points-at-requires c κs = search needs
 
-field8-requires : tie.Need-field8-requires
-field8-requires c κs = search needs
+width-at-requires : tie.Need-width-at-requires
+width-at-requires c κs = search needs
 
 wide8-requires : tie.Need-wide8-requires
 wide8-requires c κs = search needs
@@ -28,4 +28,4 @@ returns c = cc
 pub length7-at-spec : {M : Type 1} → statement M
 length7-at-spec =
     tie.close
-    (tie.spec points-at-requires field8-requires wide8-requires mul-result add-result returns)
+    (tie.spec points-at-requires width-at-requires wide8-requires mul-result add-result returns)

@@ -4,8 +4,8 @@ use borrow.Author.Needs.{needs}
 use Rattle.dual_format.proofs.packing_ok.Statement.{statement}
 use Rattle.dual_format.proofs.packing_ok.Tie as tie
 
-field32-requires : tie.Need-field32-requires
-field32-requires c κs = search needs
+reference-at-requires : tie.Need-reference-at-requires
+reference-at-requires c κs = search needs
 
 is-finite-requires : tie.Need-is-finite-requires
 is-finite-requires c κs = search needs
@@ -19,4 +19,4 @@ returns c = cc
 
 pub packing-ok-spec : {M : Type 1} → statement M
 packing-ok-spec =
-    tie.close (tie.spec field32-requires is-finite-requires width-ok-requires returns)
+    tie.close (tie.spec reference-at-requires is-finite-requires width-ok-requires returns)

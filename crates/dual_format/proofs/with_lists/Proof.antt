@@ -23,8 +23,8 @@ wide8-requires-2 c κs = search needs
 add-flags : tie.Need-add-flags
 add-flags c = search needs
 
-field32-requires : tie.Need-field32-requires
-field32-requires c κs = search needs
+rays-at-requires : tie.Need-rays-at-requires
+rays-at-requires c κs = search needs
 
 wide-requires : tie.Need-wide-requires
 wide-requires c κs = search needs
@@ -54,7 +54,7 @@ with-lists-spec =
     field8-requires-2
     wide8-requires-2
     add-flags
-    field32-requires
+    rays-at-requires
     wide-requires
     wide8-requires-3
     mul-result

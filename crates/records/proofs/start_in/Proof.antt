@@ -15,8 +15,8 @@ greatest-in-requires c κs = search needs
 bins-in-requires : tie.Need-bins-in-requires
 bins-in-requires c κs = search needs
 
-field32-requires : tie.Need-field32-requires
-field32-requires c κs = search needs
+length-at-requires : tie.Need-length-at-requires
+length-at-requires c κs = search needs
 
 add-at-front : tie.Need-add-at-front
 add-at-front c = search needs
@@ -35,9 +35,9 @@ unfolding lengthAt
 returns c = let s = c .before .before .before .before .before in let a = s .args in
     let ev = c .before .before .before .greatest-in .ensures in
     let eb = c .before .before .bins-in .ensures in
-    let el = c .before .field32 .ensures in
+    let el = c .before .length-at .ensures in
     let e : c .at-front .result ≡ startIn (a .file .now) (a .c) = c .at-front .ensures ∙ (λ j. record { rec = record { offset = 0; before = 0 }; from = a .c .section7 + 5; to = a .c .section7 + el j; v = ev j; nb = eb j; bin = 0; at = 0; bins = 0; end = 0; next = 0 }) in
-    (e, start-going (a .file .now) (a .c) (s .pre) (omega (arith, el, c .before .field32 .ok)) _ e)
+    (e, start-going (a .file .now) (a .c) (s .pre) (omega (arith, el, c .before .length-at .ok)) _ e)
 
 pub start-in-spec : {M : Type 1} → statement M
 start-in-spec =
@@ -45,7 +45,7 @@ start-in-spec =
     (tie.spec
     greatest-in-requires
     bins-in-requires
-    field32-requires
+    length-at-requires
     add-at-front
     cast-at-front
     add-at-front-2

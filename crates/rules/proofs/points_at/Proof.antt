@@ -6,14 +6,14 @@ use borrow.Author.Needs.{needs}
 use Rattle.rules.proofs.points_at.Statement.{statement}
 use Rattle.rules.proofs.points_at.Tie as tie
 
-field32-requires : tie.Need-field32-requires
-field32-requires c κs = search needs
+bins-at-requires : tie.Need-bins-at-requires
+bins-at-requires c κs = search needs
 
 wide-requires : tie.Need-wide-requires
 wide-requires c κs = search needs
 
-field32-requires-2 : tie.Need-field32-requires-2
-field32-requires-2 c κs = search needs
+rays-at-requires : tie.Need-rays-at-requires
+rays-at-requires c κs = search needs
 
 wide-requires-2 : tie.Need-wide-requires-2
 wide-requires-2 c κs = search needs
@@ -28,4 +28,4 @@ returns c = cc
 pub points-at-spec : {M : Type 1} → statement M
 points-at-spec =
     tie.close
-    (tie.spec field32-requires wide-requires field32-requires-2 wide-requires-2 mul-result returns)
+    (tie.spec bins-at-requires wide-requires rays-at-requires wide-requires-2 mul-result returns)

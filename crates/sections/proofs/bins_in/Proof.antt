@@ -6,15 +6,15 @@ use borrow.Author.Needs.{needs}
 use Rattle.sections.proofs.bins_in.Statement.{statement}
 use Rattle.sections.proofs.bins_in.Tie as tie
 
-field32-requires : tie.Need-field32-requires
-field32-requires c κs = search needs
+bins-at-requires : tie.Need-bins-at-requires
+bins-at-requires c κs = search needs
 
 place-requires : tie.Need-place-requires
 place-requires c κs = search needs
 
 returns : tie.Need-returns
 unfolding binsIn binsAt
-returns c = c .place .ensures ∙ c .before .field32 .ensures
+returns c = c .place .ensures ∙ c .before .bins-at .ensures
 
 pub bins-in-spec : {M : Type 1} → statement M
-bins-in-spec = tie.close (tie.spec field32-requires place-requires returns)
+bins-in-spec = tie.close (tie.spec bins-at-requires place-requires returns)

@@ -10,8 +10,8 @@ use borrow.Author.Needs.{needs}
 use Rattle.sections.proofs.end_at.Statement.{statement}
 use Rattle.sections.proofs.end_at.Tie as tie
 
-field32-requires : tie.Need-field32-requires
-field32-requires c κs = search needs
+length-at-requires : tie.Need-length-at-requires
+length-at-requires c κs = search needs
 
 place-requires : tie.Need-place-requires
 place-requires c κs = search needs
@@ -21,7 +21,7 @@ add-result c = search needs
 
 returns : tie.Need-returns
 unfolding lengthAt
-returns c = ap (λ (n : ℕ). c .before .before .before .before .args .at + n) (c .place .ensures ∙ c .before .field32 .ensures)
+returns c = ap (λ (n : ℕ). c .before .before .before .before .args .at + n) (c .place .ensures ∙ c .before .length-at .ensures)
 
 returns-2 : tie.Need-returns-2
 unfolding lengthAt field
@@ -31,4 +31,4 @@ returns-2 c = let a = c .before .before .args in
     omega arith
 
 pub end-at-spec : {M : Type 1} → statement M
-end-at-spec = tie.close (tie.spec field32-requires place-requires add-result returns returns-2)
+end-at-spec = tie.close (tie.spec length-at-requires place-requires add-result returns returns-2)

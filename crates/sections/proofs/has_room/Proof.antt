@@ -5,12 +5,12 @@ use borrow.Author.Needs.{needs}
 use Rattle.sections.proofs.has_room.Statement.{statement}
 use Rattle.sections.proofs.has_room.Tie as tie
 
-field8-requires : tie.Need-field8-requires
-field8-requires c κs = search needs
+number-at-requires : tie.Need-number-at-requires
+number-at-requires c κs = search needs
 
 returns : tie.Need-returns
 unfolding roomForCut numberAt
 returns c = cc
 
 pub has-room-spec : {M : Type 1} → statement M
-has-room-spec = tie.close (tie.spec field8-requires returns)
+has-room-spec = tie.close (tie.spec number-at-requires returns)

@@ -5,14 +5,14 @@ use borrow.Author.Needs.{needs}
 use Rattle.sections.proofs.is_framed.Statement.{statement}
 use Rattle.sections.proofs.is_framed.Tie as tie
 
-field32-requires : tie.Need-field32-requires
-field32-requires c κs = search needs
+length-at-requires : tie.Need-length-at-requires
+length-at-requires c κs = search needs
 
 place-requires : tie.Need-place-requires
 place-requires c κs = search needs
 
-field8-requires : tie.Need-field8-requires
-field8-requires c κs = search needs
+number-at-requires : tie.Need-number-at-requires
+number-at-requires c κs = search needs
 
 ends-by-requires : tie.Need-ends-by-requires
 ends-by-requires c κs = search needs
@@ -31,9 +31,9 @@ pub is-framed-spec : {M : Type 1} → statement M
 is-framed-spec =
     tie.close
     (tie.spec
-    field32-requires
+    length-at-requires
     place-requires
-    field8-requires
+    number-at-requires
     ends-by-requires
     ends-by-requires-2
     may-follow-requires

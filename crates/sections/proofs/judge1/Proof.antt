@@ -4,8 +4,8 @@ use borrow.Author.Needs.{needs}
 use Rattle.sections.proofs.judge1.Statement.{statement}
 use Rattle.sections.proofs.judge1.Tie as tie
 
-field32-requires : tie.Need-field32-requires
-field32-requires c κs = search needs
+length-at-requires : tie.Need-length-at-requires
+length-at-requires c κs = search needs
 
 fields1-requires : tie.Need-fields1-requires
 fields1-requires c κs = search needs
@@ -27,7 +27,7 @@ pub judge1-spec : {M : Type 1} → statement M
 judge1-spec =
     tie.close
     (tie.spec
-    field32-requires
+    length-at-requires
     fields1-requires
     accepted-requires
     check-requires

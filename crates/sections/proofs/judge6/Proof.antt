@@ -4,8 +4,8 @@ use borrow.Author.Needs.{needs}
 use Rattle.sections.proofs.judge6.Statement.{statement}
 use Rattle.sections.proofs.judge6.Tie as tie
 
-field32-requires : tie.Need-field32-requires
-field32-requires c κs = search needs
+length-at-requires : tie.Need-length-at-requires
+length-at-requires c κs = search needs
 
 fields6-requires : tie.Need-fields6-requires
 fields6-requires c κs = search needs
@@ -27,7 +27,7 @@ pub judge6-spec : {M : Type 1} → statement M
 judge6-spec =
     tie.close
     (tie.spec
-    field32-requires
+    length-at-requires
     fields6-requires
     accepted-requires
     check-requires

@@ -6,15 +6,15 @@ use borrow.Author.Needs.{needs}
 use Rattle.sections.proofs.rays_in.Statement.{statement}
 use Rattle.sections.proofs.rays_in.Tie as tie
 
-field32-requires : tie.Need-field32-requires
-field32-requires c κs = search needs
+rays-at-requires : tie.Need-rays-at-requires
+rays-at-requires c κs = search needs
 
 place-requires : tie.Need-place-requires
 place-requires c κs = search needs
 
 returns : tie.Need-returns
 unfolding raysIn raysAt
-returns c = c .place .ensures ∙ c .before .field32 .ensures
+returns c = c .place .ensures ∙ c .before .rays-at .ensures
 
 pub rays-in-spec : {M : Type 1} → statement M
-rays-in-spec = tie.close (tie.spec field32-requires place-requires returns)
+rays-in-spec = tie.close (tie.spec rays-at-requires place-requires returns)

@@ -35,20 +35,20 @@ returns c = let a = c .before .before .before .before .before .args in rw (eq-eq
 is-framed-requires : tie.Need-is-framed-requires
 is-framed-requires c κs = search needs
 
-field8-requires : tie.Need-field8-requires
-field8-requires c κs = search needs
+number-at-requires : tie.Need-number-at-requires
+number-at-requires c κs = search needs
 
 -- what both ways to judge a section ask, from its framing
-asked : (c : tie.After-field8) → let s = c .before .before .before .before .before in
+asked : (c : tie.After-number-at) → let s = c .before .before .before .before .before in
     let at = s .args .at in
-    (at + lengthAt (now (s .args .s)) at ≤ length (now (s .args .s))) × (c .field8 .result ≡ 7 → pointsAt (now (s .args .s)) (s .args .x .section3) ≤ 2097152)
+    (at + lengthAt (now (s .args .s)) at ≤ length (now (s .args .s))) × (c .number-at .result ≡ 7 → pointsAt (now (s .args .s)) (s .args .x .section3) ≤ 2097152)
 unfolding numberAt
 asked c = let s = c .before .before .before .before .before in
     let a = s .args in
     let fr = framed-is (now (a .s)) (a .end) (a .x) (a .at) (sym (c .before .before .is-framed .ensures) ∙ c .before .if2 .taken) in
     let reach = fr .reach in
     let inside = s .pre .0 in
-    (omega arith, λ (e : c .field8 .result ≡ 7). s .pre .1 (past-three (a .x .previous) _ (fr .allowed) (omega (arith, sym (c .field8 .ensures) ∙ e))))
+    (omega arith, λ (e : c .number-at .result ≡ 7). s .pre .1 (past-three (a .x .previous) _ (fr .allowed) (omega (arith, sym (c .number-at .ensures) ∙ e))))
 
 judge7-requires : tie.Need-judge7-requires
 judge7-requires c κs = let w = asked (c .before) in
@@ -63,7 +63,7 @@ seven own s end x at h f n = rw (ne-eqb at end h, f, n, and-false)
 returns-2 : tie.Need-returns-2
 unfolding numberAt
 returns-2 c = let a = c .before .before .before .before .before .before .before .args in
-    c .judge7 .ensures ∙ seven (ownOf (a .format)) (now (a .s)) (a .end) (a .x) (a .at) (c .before .before .before .before .before .if1 .left) (sym (c .before .before .before .before .is-framed .ensures) ∙ c .before .before .before .if2 .taken) (sym (c .before .before .field8 .ensures) ∙ c .before .if3 .taken)
+    c .judge7 .ensures ∙ seven (ownOf (a .format)) (now (a .s)) (a .end) (a .x) (a .at) (c .before .before .before .before .before .if1 .left) (sym (c .before .before .before .before .is-framed .ensures) ∙ c .before .before .before .if2 .taken) (sym (c .before .before .number-at .ensures) ∙ c .before .if3 .taken)
 
 has-room-requires : tie.Need-has-room-requires
 has-room-requires c κs = search needs
@@ -77,7 +77,7 @@ check-requires-2 c κs = search needs
 returns-3 : tie.Need-returns-3
 unfolding checksAt numberAt
 returns-3 c = let a = c .before .before .before .before .before .before .before .before .before .args in
-    rw (ne-eqb (a .at) (a .end) (c .before .before .before .before .before .before .before .if1 .left), sym (c .before .before .before .before .before .before .is-framed .ensures) ∙ c .before .before .before .before .before .if2 .taken, c .check2 .ensures, c .before .judge .ensures, c .before .before .has-room .ensures, c .before .before .before .before .field8 .ensures)
+    rw (ne-eqb (a .at) (a .end) (c .before .before .before .before .before .before .before .if1 .left), sym (c .before .before .before .before .before .before .is-framed .ensures) ∙ c .before .before .before .before .before .if2 .taken, c .check2 .ensures, c .before .judge .ensures, c .before .before .has-room .ensures, c .before .before .before .before .number-at .ensures)
 
 refused-requires : tie.Need-refused-requires
 refused-requires c κs = search needs
@@ -96,7 +96,7 @@ judge-here-spec =
     check-requires
     returns
     is-framed-requires
-    field8-requires
+    number-at-requires
     judge7-requires
     returns-2
     has-room-requires

@@ -37,11 +37,11 @@ returns : tie.Need-returns
 returns c = let a = c .before .before .before .before .before .before .args in
     sym (step-done (ownOf (a .format)) (now (a .s)) (a .end) (a .st) (sym (judged (c .before .before .before)) ∙ c .before .enum-told .given .1) (c .if1 .taken))
 
-field8-requires : tie.Need-field8-requires
-field8-requires c κs = search needs
+number-at-requires : tie.Need-number-at-requires
+number-at-requires c κs = search needs
 
-field32-requires : tie.Need-field32-requires
-field32-requires c κs = search needs
+length-at-requires : tie.Need-length-at-requires
+length-at-requires c κs = search needs
 
 place-requires : tie.Need-place-requires
 place-requires c κs = search needs
@@ -54,7 +54,7 @@ passed-requires c κs = let a = c .before .before .before .before .before .befor
     let reach : a .st .at + lengthAt s (a .st .at) ≤ a .end = fr .reach in
     let inside = c .before .before .before .before .before .before .before .before .before .pre .end-in in
     let few = c .before .before .before .before .before .before .before .before .before .pre .few in
-    let len = c .place .ensures ∙ c .before .field32 .ensures in
+    let len = c .place .ensures ∙ c .before .length-at .ensures in
     (omega arith, few)
 
 returns-2 : tie.Need-returns-2
@@ -65,8 +65,8 @@ returns-3 : tie.Need-returns-3
 unfolding lengthAt numberAt
 returns-3 c = let a = c .before .before .before .before .before .before .before .before .before .before .args in
     let s = now (a .s) in
-    let n = c .before .before .before .field8 .ensures in
-    let len = c .before .place .ensures ∙ c .before .before .field32 .ensures in
+    let n = c .before .before .before .number-at .ensures in
+    let len = c .before .place .ensures ∙ c .before .before .length-at .ensures in
     ap Next (c .passed .ensures ∙ (λ i. past (a .st) (n i) (len i)))
     ∙ sym (step-next (ownOf (a .format)) s (a .end) (a .st) (sym (judged (c .before .before .before .before .before .before .before)) ∙ c .before .before .before .before .before .enum-told .given .1) (c .before .before .before .before .if1 .left))
 
@@ -79,8 +79,8 @@ one-step-spec =
     enum-known-refusal
     enum-told
     returns
-    field8-requires
-    field32-requires
+    number-at-requires
+    length-at-requires
     place-requires
     passed-requires
     returns-2

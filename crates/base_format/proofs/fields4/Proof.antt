@@ -1,12 +1,12 @@
 -- One `both` for each rule; `flat` turns the chain that the code tests into the list of rules.
 use mathlib.Core.Bool.{true}
-use Rattle.rules.specs.Rules.{rules4}
+use Rattle.base_format.specs.Rules.{rules4}
 use borrow.Author.Needs.{needs}
 use mathlib.Core.Path.{_∙_}
 use denote.Ref.{now}
 use Rattle.rules.proofs.Chains.{both, flat}
-use Rattle.rules.proofs.fields4.Statement.{statement}
-use Rattle.rules.proofs.fields4.Tie as tie
+use Rattle.base_format.proofs.fields4.Statement.{statement}
+use Rattle.base_format.proofs.fields4.Tie as tie
 
 within16-requires : tie.Need-within16-requires
 within16-requires c κs = search needs
@@ -56,7 +56,7 @@ returns c =
     (c .before .before .elevation-ok .ensures))
     (c .before .within86 .ensures))
     (c .within163 .ensures))
-    ∙ flat true (now (a .s)) (a .at) (rules4 (a .product) (a .site))
+    ∙ flat true (now (a .s)) (a .at) (rules4 (a .parameter) (a .site))
 
 pub fields4-spec : {M : Type 1} → statement M
 fields4-spec =

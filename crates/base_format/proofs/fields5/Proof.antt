@@ -1,12 +1,12 @@
 -- One `both` for each rule; `flat` turns the chain that the code tests into the list of rules.
 use mathlib.Core.Bool.{true}
-use Rattle.rules.specs.Rules.{rules5}
+use Rattle.base_format.specs.Rules.{rules5}
 use borrow.Author.Needs.{needs}
 use mathlib.Core.Path.{_∙_}
 use denote.Ref.{now}
 use Rattle.rules.proofs.Chains.{both, flat}
-use Rattle.rules.proofs.fields5.Statement.{statement}
-use Rattle.rules.proofs.fields5.Tie as tie
+use Rattle.base_format.proofs.fields5.Statement.{statement}
+use Rattle.base_format.proofs.fields5.Tie as tie
 
 within16-requires : tie.Need-within16-requires
 within16-requires c κs = search needs

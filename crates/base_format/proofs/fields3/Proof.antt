@@ -1,11 +1,12 @@
 -- The part that every grid has, then one `both` for each rule of this one.
-use Rattle.rules.specs.Rules.{meetsAll, gridRules, scanRules, rules3}
+use Rattle.rules.specs.Rules.{meetsAll, gridRules}
+use Rattle.base_format.specs.Rules.{scanRules, rules3}
 use borrow.Author.Needs.{needs}
 use mathlib.Core.Path.{sym, _∙_}
 use denote.Ref.{now}
 use Rattle.rules.proofs.Chains.{both, flat, meets-append}
-use Rattle.rules.proofs.fields3.Statement.{statement}
-use Rattle.rules.proofs.fields3.Tie as tie
+use Rattle.base_format.proofs.fields3.Statement.{statement}
+use Rattle.base_format.proofs.fields3.Tie as tie
 
 grid-fields-requires : tie.Need-grid-fields-requires
 grid-fields-requires c κs = search needs

@@ -1,9 +1,9 @@
 -- One rule or the other, as the code tests them.
 use borrow.Author.Needs.{needs}
 use Rattle.rules.specs.Rules.{meets}
 use Rattle.rules.proofs.Chains.{one-of}
-use Rattle.rules.proofs.elevation_ok.Statement.{statement}
-use Rattle.rules.proofs.elevation_ok.Tie as tie
+use Rattle.base_format.proofs.elevation_ok.Statement.{statement}
+use Rattle.base_format.proofs.elevation_ok.Tie as tie
 
 magnitude16-requires : tie.Need-magnitude16-requires
 magnitude16-requires c κs = search needs
