@@ -10,8 +10,10 @@ use lib.Seq.{drop-drop, drop-at, drop-cons, set-at}
 use lib.Dec.{leb, ltb}
 use borrow.Author.Tests.{le-leb, lt-leb, lt-ltb, le-ltb}
 use Rattle.runs.specs.Run.{levels, opens, gives, digitSum, digitCount, runLen, runNext}
-use Rattle.runs.specs.Lent.{front, between}
-use Rattle.runs.proofs.Bins.{either, drop-at as drop-here, levels-nil, levels-open, levels-digit}
+use Rattle.lent.specs.Lent.{front, between}
+use Rattle.octets.proofs.Orders.{by-order}
+use Rattle.lent.proofs.Lent.{drop-here}
+use Rattle.runs.proofs.Bins.{levels-nil, levels-open, levels-digit}
 use Rattle.runs.proofs.Steps.{digitCount-nil, digitCount-open, digitCount-digit}
 use Rattle.runs.proofs.Here.{Stands, here-inside, here-low, here-fits, here-next, run-fits, gives-true}
 use Rattle.index.specs.declared.RayRecord.{RayRecord}
@@ -40,7 +42,7 @@ skip v [] at a =
     let place : at ≡ at + digitCount v [] = omega arith in
     λ i. recordOf v (drop (sym none i) []) (place i) a
 skip v (o ∷ t) at a =
-    either o v
+    by-order o v
     (λ h.
     let none : digitCount v (o ∷ t) ≡ 0 = digitCount-open v o t h in
     let place : at ≡ at + digitCount v (o ∷ t) = omega arith in
@@ -125,13 +127,13 @@ right-on v o t at a b rec e r =
 pub record-right : (v : ℕ) (t : List ℕ) (at a : ℕ) → a < length (levels v t) → Right v t at a (recordOf v t at a)
 record-right v [] at a h = absurd (omega (arith, ap length (levels-nil v)))
 record-right v (o ∷ t) at a h =
-    either o v
+    by-order o v
     (λ l.
     let m : ℕ = 1 + digitSum v 0 t in
     let row = levels-open v o t l in
     let size = length-append (replicate m o) (levels v t) in
     let run = length-replicate m o in
-    either m a
+    by-order m a
     (λ past.
     let cut : a ≡ m + (a - m) = omega arith in
     let rest : drop a (levels v (o ∷ t)) ≡ drop (a - m) (levels v t) =

@@ -6,7 +6,7 @@ use native.Mathlib.Omega.{arith}
 use native.Mathlib.Nat.{suc-mul}
 use lib.ListN.{length, take, drop, set, length-append, length-drop}
 use Rattle.runs.specs.Run.{levels}
-use Rattle.runs.specs.Lent.{front}
+use Rattle.lent.specs.Lent.{front}
 use Rattle.index.specs.declared.RayRecord.{RayRecord}
 use Rattle.index.specs.declared.Pace.{Pace}
 use Rattle.index.specs.Index.{recordOf, records}

@@ -13,7 +13,8 @@ use Rattle.runs.specs.declared.Step.{Step}
 use Rattle.runs.specs.declared.Step.the-variants.{Run, Above, Over, End}
 use Rattle.runs.proofs.Step.{the-type}
 use Rattle.runs.specs.Run.{levels, opens, runLen, runNext, digitSum, stepAt}
-use Rattle.runs.proofs.Bins.{either, drop-at}
+use Rattle.octets.proofs.Orders.{by-order}
+use Rattle.lent.proofs.Lent.{drop-here}
 use Rattle.runs.proofs.Steps.{stepAt-end, stepAt-above, stepAt-run}
 use Rattle.index.specs.declared.RayRecord.{RayRecord}
 use Rattle.index.specs.Index.{usable}
@@ -47,30 +48,30 @@ module _ (v nb : ℕ) (s : List ℕ) (b : ℕ) where
 
   pub over-there : Over ≡ stepAt v b s 0 → (0 < length s) × (getD s 0 0 ≤ v) × (b < runLen v s 0)
   over-there e =
-      either (length s) 0
+      by-order (length s) 0
       (λ h. absurd (let w : _≡_ {A = ℕ} 0 1 = cc (e ∙ sym (stepAt-end v b s 0 h)) in omega arith))
       (λ i.
-      either (getD s 0 0) v
+      by-order (getD s 0 0) v
       (λ l.
-      either (runLen v s 0) b
+      by-order (runLen v s 0) b
       (λ h. absurd (let w : _≡_ {A = ℕ} 0 1 = cc (sym (told (leb (runLen v s 0) b) (getD s 0 0) (runLen v s 0) (runNext v s 0) (e ∙ sym (stepAt-run v b s 0 i l))) ∙ le-leb (runLen v s 0) b h) in omega arith))
       (λ h. (i, l, h)))
       (λ h. absurd (let w : _≡_ {A = ℕ} 0 1 = cc (e ∙ sym (stepAt-above v b s 0 i h)) in omega arith)))
 
   pub over-opens : Over ≡ stepAt v b s 0 → opens v s ≡ true
-  over-opens e = let t = over-there e in ap (opens v) (drop-at s 0 (t .0)) ∙ le-leb (getD s 0 0) v (t .1)
+  over-opens e = let t = over-there e in ap (opens v) (drop-here s 0 (t .0)) ∙ le-leb (getD s 0 0) v (t .1)
 
   pub over-usable : Over ≡ stepAt v b s 0 → usable v nb s here ≡ leb (b + nb) (length (levels v s))
   over-usable e = let t = over-there e in usable-left v nb s here (t .0) (t .1) (t .2)
 
   pub other-usable : (step : Step) → step ≡ stepAt v b s 0 → (tagOf the-type step ≡ 2 → ⊥) → usable v nb s here ≡ false
   other-usable step e other =
-      either (length s) 0
+      by-order (length s) 0
       (λ h. usable-outside v nb s here h)
       (λ i.
-      either (getD s 0 0) v
+      by-order (getD s 0 0) v
       (λ l.
-      either (runLen v s 0) b
+      by-order (runLen v s 0) b
       (λ h. usable-reached v nb s here i l h)
       (λ h. absurd (other (ap (tagOf the-type) (e ∙ sym (stepAt-run v b s 0 i l) ∙ ap (λ (t : Bool). cond t (Run (getD s 0 0) (runLen v s 0) (runNext v s 0)) Over) (lt-leb (runLen v s 0) b h))))))
       (λ h. usable-above v nb s here i h))
@@ -87,9 +88,9 @@ usable-from v nb s p i =
     let inside : 0 < length t = omega (arith, length-drop at s) in
     let octet : getD t 0 0 ≡ getD s at 0 = getD-drop at s 0 0 ∙ ap (λ (n : ℕ). getD s n 0) (omega arith) in
     let run : runLen v t 0 ≡ runLen v s at = ap (λ (l : List ℕ). 1 + digitSum v 0 l) (drop-drop 1 at s) in
-    either (getD s at 0) v
+    by-order (getD s at 0) v
     (λ l.
-    either (runLen v s at) (p .before)
+    by-order (runLen v s at) (p .before)
     (λ h. usable-reached v nb t q inside (omega (arith, octet)) (omega (arith, run)) ∙ sym (usable-reached v nb s p i l h))
     (λ h. usable-left v nb t q inside (omega (arith, octet)) (omega (arith, run)) ∙ sym (usable-left v nb s p i l h)))
     (λ h. usable-above v nb t q inside (omega (arith, octet)) ∙ sym (usable-above v nb s p i h))
@@ -102,16 +103,16 @@ pub record Fits (v nb : ℕ) (s : List ℕ) (p : RayRecord) : Type 0 where
 
 pub usable-fits : (v nb : ℕ) (s : List ℕ) (p : RayRecord) → usable v nb s p ≡ true → Fits v nb s p
 usable-fits v nb s p u =
-    either (length s) (p .offset)
+    by-order (length s) (p .offset)
     (λ h. absurd (never (usable-outside v nb s p h)))
     (λ i.
-    either (getD s (p .offset) 0) v
+    by-order (getD s (p .offset) 0) v
     (λ l.
-    either (runLen v s (p .offset)) (p .before)
+    by-order (runLen v s (p .offset)) (p .before)
     (λ h. absurd (never (usable-reached v nb s p i l h)))
     (λ h. record {
       inside = i;
-      opened = ap (opens v) (drop-at s (p .offset) i) ∙ le-leb (getD s (p .offset) 0) v l;
+      opened = ap (opens v) (drop-here s (p .offset) i) ∙ le-leb (getD s (p .offset) 0) v l;
       given = leb-true (p .before + nb) (length (levels v (drop (p .offset) s))) (sym (usable-left v nb s p i l h) ∙ u);
     }))
     (λ h. absurd (never (usable-above v nb s p i h))))

@@ -8,7 +8,7 @@ ghost use Prim.Native.Nat.{_-_, _≤_, _<_};
 ghost use lib.ListN.{length, take};
 ghost use lib.Dec.{leb};
 ghost use Rattle.runs.specs.Run.{levels, opens};
-ghost use Rattle.runs.specs.Lent.{front, between};
+ghost use Rattle.lent.specs.Lent.{front, between};
 ghost use Rattle.index.specs.Index.{usable, fromRecord, records};
 ghost use Rattle.index.specs.Pace.{dataIn, Along, Onward, Going};
 
@@ -54,7 +54,7 @@ fn paint(octets: &[u8], v: u8, a: usize, b: usize, out: &mut [u8]) -> bool
         let level = octets[at];
         let run = runs::run_upto(octets, v, at, b - bins);
         let to = bins + run.len;
-        runs::stamp(out, runs::above(bins, a), runs::above(to, a), level);
+        lent::stamp(out, runs::above(bins, a), runs::above(to, a), level);
         bins = to;
         at = run.next;
     }

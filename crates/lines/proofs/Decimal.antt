@@ -6,7 +6,7 @@ use native.Mathlib.Nat.{div-lt-self, div-lt-iff-lt-mul, pow-suc}
 use native.Mathlib.Omega.{arith}
 use borrow.Author.Tests.{lt-ltb, le-ltb}
 use lib.ListN.{length, length-append}
-use Rattle.runs.proofs.Bins.{either}
+use Rattle.octets.proofs.Orders.{by-order}
 use Rattle.lines.specs.Text.{digit, spelled, decimal}
 
 spelled-one : (f n : ℕ) → n < 10 → spelled (suc f) n ≡ digit n ∷ []
@@ -22,7 +22,7 @@ enough : (f g n : ℕ) → n < f → n < g → spelled f n ≡ spelled g n
 enough zero g n h k = absurd (omega arith)
 enough (suc f) zero n h k = absurd (omega arith)
 enough (suc f) (suc g) n h k =
-    either 10 n
+    by-order 10 n
     (λ more.
     let less : n / 10 < n = div-lt-self (omega arith) (omega arith) in
     spelled-more f n more ∙ ap (λ (l : List ℕ). l ++ (digit (n % 10) ∷ [])) (enough f g (n / 10) (omega arith) (omega arith)) ∙ sym (spelled-more g n more))
@@ -43,14 +43,14 @@ decimal-longer n h = ap length (decimal-more n h) ∙ length-append (decimal (n 
 
 pub decimal-some : (n : ℕ) → 0 < length (decimal n)
 decimal-some n =
-    either 10 n (λ more. omega (arith, decimal-longer n more))
+    by-order 10 n (λ more. omega (arith, decimal-longer n more))
     (λ one. omega (arith, ap length (decimal-one n one)))
 
 -- a number below 10 ^ k has at most k digits, and one at least
 short : (k n : ℕ) → n < 10 ^ suc k → length (decimal n) ≤ suc k
 short zero n h = omega (arith, ap length (decimal-one n h))
 short (suc k) n h =
-    either 10 n
+    by-order 10 n
     (λ more.
     let below : n / 10 < 10 ^ suc k = div-lt-iff-lt-mul {k = 10} {x = n} {y = 10 ^ suc k} (omega arith) .1 (rw (← pow-suc 10 (suc k)) h) in
     omega (arith, short k (n / 10) below, decimal-longer n more))

@@ -1,5 +1,5 @@
 pub mod Decimal
-pub mod Placing
+pub mod Digits
 pub mod Lines
 pub mod Words
 pub mod Sample

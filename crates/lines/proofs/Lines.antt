@@ -5,14 +5,14 @@ use mathlib.Core.List.{List, [], _∷_, _++_, append-assoc}
 use native.Mathlib.Omega.{arith}
 use native.Mathlib.Numerals.{add-one}
 use lib.ListN.{length, length-append}
-use Rattle.runs.specs.Lent.{placed}
+use Rattle.lent.specs.Lent.{placed}
 use Rattle.stretches.specs.Stretch.{Entry}
-use Rattle.lines.specs.Put.{Put}
+use Rattle.lent.specs.Put.{Put}
 use Rattle.lines.specs.Ascii.{ascii}
 use Rattle.lines.specs.Text.{decimal, newline, kindWord, entryLine, entryLines, headLine, refusedLine, endLine}
 use Rattle.lines.specs.Words.{entryIn, entriesIn}
 use Rattle.lines.proofs.Decimal.{decimal-some}
-use Rattle.lines.proofs.Placing.{placed-append, then, named}
+use Rattle.lent.proofs.Putting.{placed-append, then, named}
 
 pub kind-over : (k : ℕ) → (k ≡ 0 → ⊥) → (k ≡ 1 → ⊥) → ascii " over" ++ newline ≡ kindWord k ++ newline
 unfolding kindWord

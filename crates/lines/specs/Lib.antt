@@ -1,4 +1,4 @@
 pub mod Ascii
-pub mod Put
+pub mod Rooms
 pub mod Text
 pub mod Words

@@ -6,7 +6,8 @@ ghost use mathlib.Core.List.{_++_};
 ghost use Prim.Native.Nat.{_+_, _*_, _≤_};
 ghost use lib.ListN.{length};
 ghost use Rattle.stretches.specs.Stretch.{perEntry};
-ghost use Rattle.lines.specs.Put.{Put, entryRoom, lineRoom};
+ghost use Rattle.lent.specs.Put.{Put};
+ghost use Rattle.lines.specs.Rooms.{entryRoom, lineRoom};
 ghost use Rattle.lines.specs.Text.{decimal, kindWord, newline, entryLine, entryLines, headLine, refusedLine, endLine};
 ghost use Rattle.lines.specs.Words.{entryIn, entriesIn};
 
@@ -14,19 +15,6 @@ fn wide(x: u32) -> usize
     ensures { λ r. ⌜ r ≡ x ⌝ }
 {
     x as usize
-}
-
-// Octets as they are.
-fn put_octets(out: &mut [u8], at: usize, s: &[u8]) -> usize
-    requires { ⌜ at + length (now s) ≤ length (now out) ⌝ }
-    ensures { λ r. ⌜ Put (now (out .entry)) at (now (s .entry)) (now (out .exit)) r ⌝ }
-{
-    let mut i: usize = 0;
-    while i < s.len() {
-        out[at + i] = s[i];
-        i += 1;
-    }
-    at + i
 }
 
 // A number in decimal, the digits before the last first.
@@ -49,7 +37,7 @@ fn put_named(out: &mut [u8], at: usize, name: &[u8], n: usize) -> usize
     ensures { λ r. ⌜ Put (now (out .entry)) at (now (name .entry) ++ decimal n) (now (out .exit)) r ⌝ }
     ensures { λ r. ⌜ r ≤ at + length (now (name .entry)) + 20 ⌝ }
 {
-    let a = put_octets(out, at, name);
+    let a = lent::put_octets(out, at, name);
     put_decimal(out, a, n)
 }
 
@@ -60,9 +48,9 @@ fn put_kind(out: &mut [u8], at: usize, kind: u32) -> usize
     ensures { λ r. ⌜ r ≤ at + 20 ⌝ }
 {
     match kind {
-        0 => put_octets(out, at, b" missing\n"),
-        1 => put_octets(out, at, b" under\n"),
-        _ => put_octets(out, at, b" over\n"),
+        0 => lent::put_octets(out, at, b" missing\n"),
+        1 => lent::put_octets(out, at, b" under\n"),
+        _ => lent::put_octets(out, at, b" over\n"),
     }
 }
 
@@ -113,7 +101,7 @@ pub fn put_head(
     let c = put_named(out, b, b" bins ", bins);
     let d = put_named(out, c, b" rays ", rays);
     let e = put_named(out, d, b" threshold ", t);
-    put_octets(out, e, b"\n")
+    lent::put_octets(out, e, b"\n")
 }
 
 // The line of a refusal.
@@ -123,7 +111,7 @@ pub fn put_refused(out: &mut [u8], at: usize, number: usize, place: usize) -> us
 {
     let a = put_named(out, at, b"refused ", number);
     let b = put_named(out, a, b" at ", place);
-    put_octets(out, b, b"\n")
+    lent::put_octets(out, b, b"\n")
 }
 
 // The last line.
@@ -132,5 +120,5 @@ pub fn put_end(out: &mut [u8], at: usize, total: usize) -> usize
     ensures { λ r. ⌜ Put (now (out .entry)) at (endLine total) (now (out .exit)) r ⌝ }
 {
     let a = put_named(out, at, b"end ", total);
-    put_octets(out, a, b"\n")
+    lent::put_octets(out, a, b"\n")
 }

@@ -10,7 +10,7 @@ use lib.Dec.{ltb}
 use borrow.Author.Tests.{le-ltb, ltb-false}
 use Rattle.runs.specs.Run.{levels}
 use Rattle.runs.specs.Runs.{Decodes, Exactly}
-use Rattle.runs.specs.Lent.{front}
+use Rattle.lent.specs.Lent.{front}
 use Rattle.runs.specs.Read.{ReadPromise}
 use Rattle.runs.specs.declared.RunRead.{RunRead}
 use Rattle.runs.specs.declared.RunRead.the-variants as R

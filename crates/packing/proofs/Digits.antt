@@ -10,7 +10,8 @@ use lib.Seq.{drop-cons, take-all}
 use borrow.Author.Tests.{eq-eqb, ne-eqb}
 use Rattle.runs.specs.Run.{base}
 use Rattle.packing.specs.Write.{greatest, digitsUpTo, digitsOf, code, onFrom, written}
-use Rattle.runs.proofs.Bins.{either, drop-at}
+use Rattle.octets.proofs.Orders.{by-order}
+use Rattle.lent.proofs.Lent.{drop-here}
 
 -- one of two cases
 pub alike {ℓ} : {P : Type ℓ} (a b : ℕ) → (a ≡ b → P) → ((a ≡ b → ⊥) → P) → P
@@ -34,7 +35,7 @@ enough : (f g b m : ℕ) → 2 ≤ b → m ≤ f → m ≤ g → digitsUpTo f b 
 enough zero g b m hb hf hg = let z : m ≡ 0 = omega arith in rw z (up-zero zero b ∙ sym (up-zero g b))
 enough (suc f) zero b m hb hf hg = let z : m ≡ 0 = omega arith in rw z (up-zero (suc f) b ∙ sym (up-zero zero b))
 enough (suc f) (suc g) b m hb hf hg =
-    either m 0
+    by-order m 0
     (λ h. let z : m ≡ 0 = omega arith in rw z (up-zero (suc f) b ∙ sym (up-zero (suc g) b)))
     (λ h.
     let less : m / b < m = div-lt-self h hb in
@@ -55,7 +56,7 @@ up-short : (f b m : ℕ) → length (digitsUpTo f b m) ≤ f
 unfolding digitsUpTo
 up-short zero b m = omega arith
 up-short (suc f) b m =
-    either m 0
+    by-order m 0
     (λ h. let z : m ≡ 0 = omega arith in rw z (omega arith))
     (λ h. simp (ne-eqb m 0 (omega arith)) (omega (arith, up-short f b (m / b))))
 
@@ -96,7 +97,7 @@ unfolding greatest
 greatest-nil = refl
 
 pub greatest-at : (row : List ℕ) (i : ℕ) → i < length row → greatest (drop i row) ≡ max (getD row i 0) (greatest (drop (i + 1) row))
-greatest-at row i h = ap greatest (drop-at row i h) ∙ greatest-cons (getD row i 0) (drop (i + 1) row)
+greatest-at row i h = ap greatest (drop-here row i h) ∙ greatest-cons (getD row i 0) (drop (i + 1) row)
 
 pub greatest-end : (row : List ℕ) (i : ℕ) → length row ≤ i → greatest (drop i row) ≡ 0
 greatest-end row i h = ap greatest (drop-of-length-le row h) ∙ greatest-nil
@@ -117,10 +118,10 @@ module _ (v x k y : ℕ) (s : List ℕ) where
 -- the same along a row, by the place i of the next level
 module _ (v x k : ℕ) (row : List ℕ) (i : ℕ) where
   pub on-same : i < length row → getD row i 0 ≡ x → onFrom v x k (drop i row) ≡ onFrom v x (k + 1) (drop (i + 1) row)
-  on-same h e = ap (λ (s : List ℕ). onFrom v x k s) (drop-at row i h) ∙ onFrom-same v x k (getD row i 0) (drop (i + 1) row) e
+  on-same h e = ap (λ (s : List ℕ). onFrom v x k s) (drop-here row i h) ∙ onFrom-same v x k (getD row i 0) (drop (i + 1) row) e
 
   pub on-other : i < length row → (getD row i 0 ≡ x → ⊥) → onFrom v x k (drop i row) ≡ code v x k ++ onFrom v (getD row i 0) 0 (drop (i + 1) row)
-  on-other h e = ap (λ (s : List ℕ). onFrom v x k s) (drop-at row i h) ∙ onFrom-other v x k (getD row i 0) (drop (i + 1) row) e
+  on-other h e = ap (λ (s : List ℕ). onFrom v x k s) (drop-here row i h) ∙ onFrom-other v x k (getD row i 0) (drop (i + 1) row) e
 
   pub on-end : length row ≤ i → onFrom v x k (drop i row) ≡ code v x k
   on-end h = ap (λ (s : List ℕ). onFrom v x k s) (drop-of-length-le row h) ∙ onFrom-nil v x k

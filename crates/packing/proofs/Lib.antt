@@ -1,4 +1,3 @@
 pub mod Digits
-pub mod Placing
 pub mod ReadBack
 pub mod Calls

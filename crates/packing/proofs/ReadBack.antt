@@ -10,7 +10,8 @@ use lib.Dec.{leb}
 use borrow.Author.Tests.{le-leb, leb-true, eq-eqb}
 use Rattle.runs.specs.Run.{base, digitSum, levels, opens, gives}
 use Rattle.packing.specs.Write.{greatest, digitsUpTo, digitsOf, code, onFrom, written}
-use Rattle.runs.proofs.Bins.{either, levels-nil, levels-open, levels-digit}
+use Rattle.octets.proofs.Orders.{by-order}
+use Rattle.runs.proofs.Bins.{levels-nil, levels-open, levels-digit}
 use Rattle.runs.proofs.Steps.{dsum, dsum-nil, dsum-open, dsum-digit, digitSum-is}
 use Rattle.packing.proofs.Digits.{alike, octetsOf, code-is, up-zero, up-more, onFrom-nil, onFrom-same, onFrom-other, greatest-cons}
 
@@ -36,7 +37,7 @@ module _ (v : ℕ) (low : v ≤ 252) (t : List ℕ) (stop : opens v t ≡ true) 
       let z : m ≡ 0 = omega arith in
       rw z (ap (λ (l : List ℕ). dsum v w (octetsOf v l ++ t)) (up-zero zero (base v)) ∙ dsum-opens v w t stop ∙ sym (zero-mul w))
   digits-sum (suc f) m w h =
-      either m 0
+      by-order m 0
       (λ g.
       let z : m ≡ 0 = omega arith in
       rw z (ap (λ (l : List ℕ). dsum v w (octetsOf v l ++ t)) (up-zero (suc f) (base v)) ∙ dsum-opens v w t stop ∙ sym (zero-mul w)))

@@ -6,7 +6,7 @@ use mathlib.Core.Bool.{cond}
 use lib.ListN.{length}
 use lib.Dec.{ltb, eqb}
 use Rattle.runs.specs.Run.{base}
-use Rattle.runs.specs.Lent.{front}
+use Rattle.lent.specs.Lent.{front}
 use Rattle.packing.specs.declared.WriteRefusal.{WriteRefusal}
 use Rattle.packing.specs.declared.WriteRefusal.the-variants.{LevelsOutOfRange, RoomTooShort}
 use Rattle.packing.specs.declared.RunWrite.{RunWrite}

@@ -4,7 +4,7 @@ ghost use mathlib.Core.Path.{_≡_};
 ghost use Prim.Native.Nat.{_≤_, _+_};
 ghost use lib.ListN.{length};
 ghost use lib.Dec.{leb};
-ghost use Rattle.runs.specs.Lent.{front, placed};
+ghost use Rattle.lent.specs.Lent.{front, placed};
 ghost use Rattle.packing.specs.Write.{greatest, digitsOf, code, written, WritePromise};
 
 // The greatest level.

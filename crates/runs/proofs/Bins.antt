@@ -4,23 +4,14 @@ use mathlib.Core.Path.{_≡_, refl, sym, ap, _∙_}
 use mathlib.Core.Logic.{_⊎_, inl, inr}
 use mathlib.Core.Bool.{true, false, cond}
 use mathlib.Core.List.{List, [], _∷_, _++_}
-use native.Mathlib.Decide.{decLe}
 use native.Mathlib.Nat.{mul-le-mul, zero-mul, pow-zero, pow-suc, le-mul-of-pos-right, mul-comm}
 use native.Mathlib.Numerals.{add-one}
 use native.Mathlib.Omega.{arith}
-use lib.ListN.{length, replicate, length-append, length-replicate, drop, getD}
-use lib.Seq.{drop-cons}
+use lib.ListN.{length, replicate, length-append, length-replicate}
 use lib.Dec.{leb, eqb}
 use borrow.Author.Tests.{le-leb, lt-leb}
+use Rattle.octets.proofs.Orders.{by-order}
 use Rattle.runs.specs.Run.{base, digitSum, levels, gives}
-
--- one of two orders
-pub either {ℓ} : {P : Type ℓ} (a b : ℕ) → (a ≤ b → P) → (b < a → P) → P
-either {P} a b f g = go (decLe a b)
-  where
-    go : Dec (a ≤ b) → P
-    go (yes h) = f h
-    go (no h) = g (omega arith)
 
 -- the definitions' cases
 pub digitSum-nil : (v k : ℕ) → digitSum v k [] ≡ 0
@@ -79,7 +70,7 @@ rest-digit v w o s h = simp (lt-leb o v h)
 pub rest-right : (v k : ℕ) (s : List ℕ) → digitSum v k s + length (levels v s) ≡ rest v (base v ^ k) s
 rest-right v k [] = omega (arith, digitSum-nil v k, ap length (levels-nil v), rest-nil v (base v ^ k))
 rest-right v k (o ∷ s) =
-    either o v
+    by-order o v
     (λ h. omega (arith, digitSum-open v k o s h, ap length (levels-open v o s h), length-append (replicate (1 + digitSum v 0 s) o) (levels v s), length-replicate (1 + digitSum v 0 s) o, rest-open v (base v ^ k) o s h, rest-right v 0 s, ap (λ (w : ℕ). rest v w s) (pow-zero (base v))))
     (λ h. omega (arith, digitSum-digit v k o s h, ap length (levels-digit v o s h), rest-digit v (base v ^ k) o s h, rest-right v (k + 1) s, ap (λ (w : ℕ). rest v w s) (ap (λ (m : ℕ). base v ^ m) (add-one k) ∙ pow-suc (base v) k)))
 
@@ -102,7 +93,7 @@ module _ (v n : ℕ) (low : v ≤ 253) where
   pub next-weighs : (w W : ℕ) → Weighs n w W → Weighs n (cond (leb w n) (w * base v) w) (W * base v)
   unfolding Weighs
   next-weighs w W (inl e) =
-      either w n
+      by-order w n
       (λ h. simp (le-leb w n h) (inl (ap (λ (x : ℕ). x * base v) e)))
       (λ h. simp (lt-leb w n h) (inr (h, omega (arith, grows W))))
   next-weighs w W (inr g) = simp (lt-leb w n (g .0)) (inr (g .0, omega (arith, grows W)))
@@ -117,7 +108,3 @@ module _ (v n : ℕ) (low : v ≤ 253) where
 -- what a digit adds fits
 pub product : (K d w : ℕ) → d ≤ 255 → w ≤ K → d * w ≤ 255 * K
 product K d w h g = mul-le-mul h g
-
--- ---- a list from a place on
-pub drop-at : (octets : List ℕ) (i : ℕ) → i < length octets → drop i octets ≡ getD octets i 0 ∷ drop (i + 1) octets
-drop-at octets i h = drop-cons octets i 0 h ∙ ap (λ (k : ℕ). getD octets i 0 ∷ drop k octets) (sym (add-one i))

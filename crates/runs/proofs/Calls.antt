@@ -9,7 +9,7 @@ use lib.Dec.{ltb}
 use borrow.Author.Tests.{le-ltb, ltb-false}
 use Rattle.runs.specs.Run.{levels, gives}
 use Rattle.runs.specs.Runs.{Decodes}
-use Rattle.runs.specs.Lent.{front}
+use Rattle.lent.specs.Lent.{front}
 use Rattle.runs.specs.Read.{readAnswer, readOut, ReadPromise, Readable, checkAnswer, CheckPromise}
 use Rattle.runs.specs.declared.ReadRefusal.{ReadRefusal}
 use Rattle.runs.specs.declared.ReadRefusal.the-variants as F

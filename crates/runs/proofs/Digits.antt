@@ -8,7 +8,8 @@ use native.Mathlib.Omega.{arith}
 use lib.ListN.{length, drop, getD, drop-of-length-le}
 use lib.Dec.{leb}
 use Rattle.runs.specs.Run.{base, digitCount, runLen, runNext}
-use Rattle.runs.proofs.Bins.{drop-at, Weighs, weighs-same, next-weighs, same-digit}
+use Rattle.lent.proofs.Lent.{drop-here}
+use Rattle.runs.proofs.Bins.{Weighs, weighs-same, next-weighs, same-digit}
 use Rattle.runs.proofs.Steps.{dsum, dsum-nil, dsum-open, dsum-digit, digitSum-is, digitCount-nil, digitCount-open, digitCount-digit}
 
 -- the digits from i on, weighed truly, make up what is left of the run at a place
@@ -36,7 +37,7 @@ module _ {v : ℕ} {s : List ℕ} {at i len w : ℕ} (k : Still v s at i len w) 
 
   pub still-stop : i < length s → getD s i 0 ≤ v → (len ≡ runLen v s at) × (i ≡ runNext v s at)
   still-stop h low =
-      let here = drop-at s i h in
+      let here = drop-here s i h in
       ended
       (ap (λ (l : List ℕ). dsum v (k .true-weight) l) here ∙ dsum-open v (k .true-weight) (getD s i 0) (drop (i + 1) s) low)
       (ap (λ (l : List ℕ). digitCount v l) here ∙ digitCount-open v (getD s i 0) (drop (i + 1) s) low)
@@ -44,10 +45,10 @@ module _ {v : ℕ} {s : List ℕ} {at i len w : ℕ} (k : Still v s at i len w) 
   -- a digit more
   module _ (low : v ≤ 253) (short : runLen v s at ≤ 2097152) (h : i < length s) (high : v < getD s i 0) where
     digit-is : dsum v (k .true-weight) (drop i s) ≡ (getD s i 0 - v - 1) * k .true-weight + dsum v (k .true-weight * base v) (drop (i + 1) s)
-    digit-is = ap (λ (l : List ℕ). dsum v (k .true-weight) l) (drop-at s i h) ∙ dsum-digit v (k .true-weight) (getD s i 0) (drop (i + 1) s) high
+    digit-is = ap (λ (l : List ℕ). dsum v (k .true-weight) l) (drop-here s i h) ∙ dsum-digit v (k .true-weight) (getD s i 0) (drop (i + 1) s) high
 
     count-is : digitCount v (drop i s) ≡ 1 + digitCount v (drop (i + 1) s)
-    count-is = ap (λ (l : List ℕ). digitCount v l) (drop-at s i h) ∙ digitCount-digit v (getD s i 0) (drop (i + 1) s) high
+    count-is = ap (λ (l : List ℕ). digitCount v l) (drop-here s i h) ∙ digitCount-digit v (getD s i 0) (drop (i + 1) s) high
 
     same : len + (getD s i 0 - v - 1) * w ≡ len + (getD s i 0 - v - 1) * k .true-weight
     same =

@@ -13,20 +13,22 @@ use Rattle.runs.specs.Spot.{Holds}
 use Rattle.runs.specs.declared.Spot.{Spot}
 use Rattle.runs.specs.declared.Scan.the-variants.{Exact, Off}
 use Rattle.runs.specs.declared.Step.the-variants.{Run, Above, Over, End}
-use Rattle.runs.proofs.Bins.{either, drop-at as drop-here, levels-nil, levels-open, levels-digit}
+use Rattle.octets.proofs.Orders.{by-order}
+use Rattle.lent.proofs.Lent.{drop-here}
+use Rattle.runs.proofs.Bins.{levels-nil, levels-open, levels-digit}
 use Rattle.runs.proofs.Steps.{stepAt-end, stepAt-above, stepAt-run, digitCount-nil, digitCount-open, digitCount-digit}
 
 -- ---- every level is at most V
 pub levels-le : (v : ℕ) (s : List ℕ) (k : ℕ) → k < length (levels v s) → getD (levels v s) k 0 ≤ v
 levels-le v [] k h = absurd (omega (arith, ap length (levels-nil v)))
 levels-le v (o ∷ s) k h =
-    either o v
+    by-order o v
     (λ low.
     let m : ℕ = 1 + digitSum v 0 s in
     let row = levels-open v o s low in
     let size = length-append (replicate m o) (levels v s) in
     let run = length-replicate m o in
-    either m k
+    by-order m k
     (λ g.
     let j : ℕ = k - m in
     let split : k ≡ length (replicate m o) + j = omega arith in
@@ -43,7 +45,7 @@ levels-le v (o ∷ s) k h =
 skip : (v : ℕ) (t : List ℕ) → (levels v t ≡ levels v (drop (digitCount v t) t)) × (opens v (drop (digitCount v t) t) ≡ true)
 skip v [] = (ap (λ (n : ℕ). levels v (drop n [])) (sym (digitCount-nil v)), ap (λ (n : ℕ). opens v (drop n [])) (digitCount-nil v))
 skip v (o ∷ t) =
-    either o v
+    by-order o v
     (λ h. (sym (ap (λ (n : ℕ). levels v (drop n (o ∷ t))) (digitCount-open v o t h)), ap (λ (n : ℕ). opens v (drop n (o ∷ t))) (digitCount-open v o t h) ∙ le-leb o v h))
     (λ h.
     let one : digitCount v (o ∷ t) ≡ suc (digitCount v t) = omega (arith, digitCount-digit v o t h) in
@@ -52,7 +54,7 @@ skip v (o ∷ t) =
 digitCount-le : (v : ℕ) (t : List ℕ) → digitCount v t ≤ length t
 digitCount-le v [] = omega (arith, digitCount-nil v)
 digitCount-le v (o ∷ t) =
-    either o v
+    by-order o v
     (λ h. omega (arith, digitCount-open v o t h))
     (λ h. omega (arith, digitCount-digit v o t h, digitCount-le v t))
 
@@ -80,7 +82,7 @@ levels-past v s at h = ap (λ (l : List ℕ). levels v l) (drop-of-length-le s h
 -- where there are levels to come and no digit stands, a level octet stands
 module _ (v : ℕ) (s : List ℕ) (at : ℕ) (opened : opens v (drop at s) ≡ true) (some : 0 < length (levels v (drop at s))) where
   pub level-inside : at < length s
-  level-inside = either (length s) at (λ h. absurd (omega (arith, ap length (levels-past v s at h)))) (λ h. h)
+  level-inside = by-order (length s) at (λ h. absurd (omega (arith, ap length (levels-past v s at h)))) (λ h. h)
 
   pub level-low : getD s at 0 ≤ v
   level-low = leb-true (getD s at 0) v (rw (drop-here s at level-inside) at opened)
@@ -133,10 +135,10 @@ module _ (v cap : ℕ) (s : List ℕ) (at level len next : ℕ) (e : Run level l
 
   pub step-run : RunHere v s at cap level len next
   step-run =
-      either (length s) at
+      by-order (length s) at
       (λ h. absurd (not-end level len next (e ∙ sym (stepAt-end v cap s at h))))
       (λ inside.
-      either (getD s at 0) v
+      by-order (getD s at 0) v
       (λ low. found inside low)
       (λ high. absurd (not-above level len next (e ∙ sym (stepAt-above v cap s at inside high)))))
 

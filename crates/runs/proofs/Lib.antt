@@ -3,7 +3,6 @@ pub mod Scanning
 pub mod Steps
 pub mod Here
 pub mod Digits
-pub mod Lent
 pub mod Meaning
 pub mod Calls
 pub mod Upto

@@ -7,7 +7,8 @@ use lib.ListN.{length, replicate}
 use borrow.Author.Tests.{le-leb, leb-true, eq-eqb}
 use Rattle.runs.specs.Run.{base, digitSum, levels, opens, gives}
 use Rattle.runs.specs.Runs.{Digits, no-digit, digit, sumFrom, Decodes, no-run, run, Exactly}
-use Rattle.runs.proofs.Bins.{either, digitSum-nil, digitSum-open, digitSum-digit, levels-nil, levels-open, levels-digit}
+use Rattle.octets.proofs.Orders.{by-order}
+use Rattle.runs.proofs.Bins.{digitSum-nil, digitSum-open, digitSum-digit, levels-nil, levels-open, levels-digit}
 use Rattle.runs.proofs.Here.{gives-true}
 
 sumFrom-nil : (v k : ℕ) → sumFrom v k [] ≡ 0
@@ -63,7 +64,7 @@ cut v [] =
     record { ds = []; tail = []; whole = refl; digits = no-digit; sum = λ k. sumFrom-nil v k ∙ sym (digitSum-nil v k); decoded = rw (levels-nil v) no-run }
 cut v (o ∷ s) =
     let c = cut v s in
-    either o v
+    by-order o v
     (λ h. record { ds = []; tail = o ∷ s; whole = refl; digits = no-digit; sum = λ k. sumFrom-nil v k ∙ sym (digitSum-open v k o s h); decoded = opened v o s h c })
     (λ h. record {
       ds = o ∷ c .ds;

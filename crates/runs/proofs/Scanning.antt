@@ -13,7 +13,9 @@ use borrow.Author.Tests.{le-leb, lt-leb, lt-ltb, le-ltb, eq-eqb, ne-eqb}
 use Rattle.runs.specs.Run.{base, levels, gives, scanned}
 use Rattle.runs.specs.declared.Scan.{Scan}
 use Rattle.runs.specs.declared.Scan.the-variants.{Exact, Off}
-use Rattle.runs.proofs.Bins.{either, digitSum-open, rest, rest-nil, rest-open, rest-digit, rest-right, gives-nil, gives-level, gives-above, Weighs, weighs-same, next-weighs, same-digit, drop-at}
+use Rattle.octets.proofs.Orders.{by-order}
+use Rattle.runs.proofs.Bins.{digitSum-open, rest, rest-nil, rest-open, rest-digit, rest-right, gives-nil, gives-level, gives-above, Weighs, weighs-same, next-weighs, same-digit}
+use Rattle.lent.proofs.Lent.{drop-here}
 
 -- so many bins where so many are wanted
 abbrev pub verdict : ℕ → ℕ → Scan
@@ -71,17 +73,17 @@ over x left h = simp (ne-eqb x left (omega arith))
 -- d of the bins taken, as many are wanted less
 taken : (x d y left : ℕ) → d ≤ left → y ≡ d + x → verdict x (left - d) ≡ verdict y left
 taken x d y left h e =
-    either x (left - d)
-    (λ g. either (left - d) x (λ f. simp (eq-eqb x (left - d) (omega arith), eq-eqb y left (omega arith))) (λ f. simp (ne-eqb x (left - d) (omega arith), ne-eqb y left (omega arith))))
+    by-order x (left - d)
+    (λ g. by-order (left - d) x (λ f. simp (eq-eqb x (left - d) (omega arith), eq-eqb y left (omega arith))) (λ f. simp (ne-eqb x (left - d) (omega arith), ne-eqb y left (omega arith))))
     (λ g. simp (ne-eqb x (left - d) (omega arith), ne-eqb y left (omega arith)))
 
 module _ (v : ℕ) (low : v ≤ 253) where
   inRun-right : (s : List ℕ) (left w W : ℕ) → left ≤ 2097152 → Weighs 2097152 w W → inRun v left w s ≡ verdict (rest v W s) left
   inRun-right [] left w W few hw = inRun-nil v left w ∙ ap (λ (x : ℕ). verdict x left) (sym (rest-nil v W))
   inRun-right (o ∷ s) left w W few hw =
-      either o v
+      by-order o v
       (λ h.
-      either 1 left
+      by-order 1 left
       (λ g. inRun-open v left w o s h g ∙ inRun-right s (left - 1) 1 1 (omega arith) (weighs-same 2097152 1) ∙ taken (rest v 1 s) 1 (rest v W (o ∷ s)) left g (rest-open v W o s h))
       (λ g. inRun-full v left w o s h g ∙ over (rest v W (o ∷ s)) left (omega (arith, rest-open v W o s h))))
       (λ h.
@@ -89,7 +91,7 @@ module _ (v : ℕ) (low : v ≤ 253) where
       let sum = rest-digit v W o s h in
       ⊎-elim
       (λ e.
-      either d left
+      by-order d left
       (λ g.
       inRun-digit v left w o s h g
       ∙ inRun-right s (left - d) (cond (leb w 2097152) (w * base v) w) (W * base v) (omega arith) (next-weighs v 2097152 low w W hw)
@@ -102,7 +104,7 @@ module _ (v : ℕ) (low : v ≤ 253) where
   pub atRun-right : (n : ℕ) (s : List ℕ) → n ≤ 2097152 → atRun v n s ≡ scanned v n s
   atRun-right n [] few = atRun-nil v n ∙ ap (λ (b : Bool). cond b Exact Off) (sym (gives-nil v n))
   atRun-right n (o ∷ s) few =
-      either o v
+      by-order o v
       (λ h.
       let total : rest v 1 (o ∷ s) ≡ length (levels v (o ∷ s)) =
       omega (arith, rest-right v 0 (o ∷ s), digitSum-open v 0 o s h, ap (λ (w : ℕ). rest v w (o ∷ s)) (pow-zero (base v))) in
@@ -129,7 +131,7 @@ ended v left w octets i X h e = sym (rw (drop-of-length-le octets h) at e) ∙ i
 -- where a run has to open
 module _ (v left : ℕ) (octets : List ℕ) (i o : ℕ) (X : Scan) (inside : i < length octets) (is : o ≡ getD octets i 0) where
   next-octet : drop i octets ≡ o ∷ drop (i + 1) octets
-  next-octet = drop-at octets i inside ∙ ap (λ (x : ℕ). x ∷ drop (i + 1) octets) (sym is)
+  next-octet = drop-here octets i inside ∙ ap (λ (x : ℕ). x ∷ drop (i + 1) octets) (sym is)
 
   pub above-fails : v < o → atRun v left (drop i octets) ≡ X → X ≡ Off
   above-fails high e = sym (rw next-octet at e) ∙ atRun-above v left 1 o _ high

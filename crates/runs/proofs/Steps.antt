@@ -13,7 +13,9 @@ use borrow.Author.Tests.{le-leb, lt-leb, lt-ltb, le-ltb}
 use Rattle.runs.specs.Run.{base, digitSum, digitCount, runLen, runNext, stepAt}
 use Rattle.runs.specs.declared.Step.{Step}
 use Rattle.runs.specs.declared.Step.the-variants.{Run, Above, Over, End}
-use Rattle.runs.proofs.Bins.{either, drop-at, Weighs, weighs-same, next-weighs, same-digit}
+use Rattle.octets.proofs.Orders.{by-order}
+use Rattle.lent.proofs.Lent.{drop-here}
+use Rattle.runs.proofs.Bins.{Weighs, weighs-same, next-weighs, same-digit}
 
 -- the sum of the digits at the front, the first of them with the weight w
 unfoldable pub dsum : ℕ → ℕ → List ℕ → ℕ
@@ -93,12 +95,12 @@ module _ (v cap : ℕ) (low : v ≤ 253) (l : ℕ) where
   pub goOn-right : (s : List ℕ) (len w W i : ℕ) → len ≤ cap → Weighs cap w W → goOn v cap l len w i s ≡ ends cap l (len + dsum v W s) (i + digitCount v s)
   goOn-right [] len w W i hl hw = goOn-nil v cap l len w i ∙ ends-fit cap l len i hl ∙ ends-eq cap l (omega (arith, dsum-nil v W)) (omega (arith, digitCount-nil v))
   goOn-right (o ∷ s) len w W i hl hw =
-      either o v
+      by-order o v
       (λ h. goOn-stop v cap l len w i o s h ∙ ends-fit cap l len i hl ∙ ends-eq cap l (omega (arith, dsum-open v W o s h)) (omega (arith, digitCount-open v o s h)))
       (λ h.
       ⊎-elim
       (λ e.
-      either (len + (o - v - 1) * w) cap
+      by-order (len + (o - v - 1) * w) cap
       (λ g. goOn-digit v cap l len w i o s h g ∙ goOn-right s (len + (o - v - 1) * w) (cond (leb w cap) (w * base v) w) (W * base v) (i + 1) g (next-weighs v cap low w W hw) ∙ ends-eq cap l (omega (arith, dsum-digit v W o s h)) (omega (arith, digitCount-digit v o s h)))
       (λ g. goOn-over v cap l len w i o s h g ∙ ends-over cap l (len + dsum v W (o ∷ s)) (i + digitCount v (o ∷ s)) (omega (arith, dsum-digit v W o s h))))
       (λ g. goOn-over v cap l len w i o s h (g .0) ∙ ends-over cap l (len + dsum v W (o ∷ s)) (i + digitCount v (o ∷ s)) (omega (arith, dsum-digit v W o s h)))
@@ -126,13 +128,13 @@ module _ (v cap : ℕ) (s : List ℕ) (at : ℕ) where
 -- along a list, by the place i of the next octet
 module _ (v cap l len w i : ℕ) (octets : List ℕ) (X : Step) where
   pub go-digit : i < length octets → v < getD octets i 0 → len + (getD octets i 0 - v - 1) * w ≤ cap → goOn v cap l len w i (drop i octets) ≡ X → goOn v cap l (len + (getD octets i 0 - v - 1) * w) (cond (leb w cap) (w * base v) w) (i + 1) (drop (i + 1) octets) ≡ X
-  go-digit hi ho hb e = sym (goOn-digit v cap l len w i _ _ ho hb) ∙ (rw (drop-at octets i hi) at e)
+  go-digit hi ho hb e = sym (goOn-digit v cap l len w i _ _ ho hb) ∙ (rw (drop-here octets i hi) at e)
 
   pub go-over : i < length octets → v < getD octets i 0 → cap < len + (getD octets i 0 - v - 1) * w → goOn v cap l len w i (drop i octets) ≡ X → Over ≡ X
-  go-over hi ho hb e = sym (goOn-over v cap l len w i _ _ ho hb) ∙ (rw (drop-at octets i hi) at e)
+  go-over hi ho hb e = sym (goOn-over v cap l len w i _ _ ho hb) ∙ (rw (drop-here octets i hi) at e)
 
   pub go-stop : i < length octets → getD octets i 0 ≤ v → goOn v cap l len w i (drop i octets) ≡ X → Run l len i ≡ X
-  go-stop hi ho e = sym (goOn-stop v cap l len w i _ _ ho) ∙ (rw (drop-at octets i hi) at e)
+  go-stop hi ho e = sym (goOn-stop v cap l len w i _ _ ho) ∙ (rw (drop-here octets i hi) at e)
 
   pub go-end : length octets ≤ i → goOn v cap l len w i (drop i octets) ≡ X → Run l len i ≡ X
   go-end hi e = sym (goOn-nil v cap l len w i) ∙ (rw (drop-of-length-le octets hi) at e)

@@ -12,7 +12,8 @@ use Rattle.runs.specs.declared.Step.{Step}
 use Rattle.runs.specs.declared.Step.the-variants.{Run, Above, Over, End}
 use Rattle.runs.proofs.Step.{the-type}
 use Rattle.runs.specs.Run.{levels, opens, runLen, runNext, stepAt}
-use Rattle.runs.proofs.Bins.{either, drop-at}
+use Rattle.octets.proofs.Orders.{by-order}
+use Rattle.lent.proofs.Lent.{drop-here}
 use Rattle.runs.proofs.Steps.{stepAt-run}
 use Rattle.runs.proofs.Here.{Stands, here-fits, here-next, levels-past, run-fits}
 
@@ -35,7 +36,7 @@ module _ (v cap : ℕ) (s : List ℕ) (at : ℕ) (inside : at < length s) (low :
   -- where it answers no run, the run is longer than the cap
   pub cut-over : (step : Step) → step ≡ stepAt v cap s at → (tagOf the-type step ≡ 0 → ⊥) → cap < runLen v s at
   cut-over step e other =
-      either (runLen v s at) cap
+      by-order (runLen v s at) cap
       (λ h. absurd (other (ap (tagOf the-type) (e ∙ sym (stepAt-run v cap s at inside low) ∙ ap (λ (b : Bool). cond b (Run (getD s at 0) (runLen v s at) (runNext v s at)) Over) (le-leb (runLen v s at) cap h)))))
       (λ h. h)
 
@@ -44,7 +45,7 @@ module _ (v : ℕ) (s : List ℕ) (at bins : ℕ) (k : Stands v s at bins) where
   -- at an octet there are bins to come
   pub more-here : at < length s → bins < length (levels v s)
   more-here inside =
-      let low : getD s at 0 ≤ v = leb-true (getD s at 0) v (rw (drop-at s at inside) at (k .opened)) in
+      let low : getD s at 0 ≤ v = leb-true (getD s at 0) v (rw (drop-here s at inside) at (k .opened)) in
       omega (arith, run-fits v s at inside low, simp length-drop at (ap length (k .rest)))
 
   -- past the octets there are none

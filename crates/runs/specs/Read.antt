@@ -7,7 +7,7 @@ use lib.ListN.{length}
 use lib.Dec.{ltb}
 use Rattle.runs.specs.Run.{levels, gives}
 use Rattle.runs.specs.Runs.{Exactly}
-use Rattle.runs.specs.Lent.{front}
+use Rattle.lent.specs.Lent.{front}
 use Rattle.runs.specs.declared.ReadRefusal.{ReadRefusal}
 use Rattle.runs.specs.declared.ReadRefusal.the-variants.{VOver253, TooManyBins, RoomTooShort, WrongBins}
 use Rattle.runs.specs.declared.RunRead.{RunRead}

@@ -6,7 +6,7 @@ ghost use mathlib.Core.Path.{_≡_};
 ghost use Prim.Native.Nat.{_≤_, _<_, _-_, min};
 ghost use lib.ListN.{length, replicate, getD};
 ghost use Rattle.runs.specs.Run.{levels, opens, scanned, runLen, runNext, stepAt};
-ghost use Rattle.runs.specs.Lent.{front, placed, between};
+ghost use Rattle.lent.specs.Lent.{front, between};
 ghost use Rattle.runs.specs.Spot.{Holds};
 ghost use Rattle.runs.specs.Read.{ReadPromise, CheckPromise};
 
@@ -162,22 +162,6 @@ pub fn run_upto(octets: &[u8], v: u8, at: usize, cap: usize) -> Known
     }
 }
 
-// One level, from lo up to hi. The first is stored by itself: most runs of noisy data are one bin, and a loop, which becomes a call, costs more.
-pub fn stamp(out: &mut [u8], lo: usize, hi: usize, level: u8)
-    requires { ⌜ (lo ≤ hi) × (hi ≤ length (now out)) ⌝ }
-    ensures { λ _. ⌜ now (out .exit) ≡ placed (now (out .entry)) lo (replicate (hi - lo) level) ⌝ }
-{
-    if hi <= lo {
-        return;
-    }
-    out[lo] = level;
-    let mut i = lo + 1;
-    while i < hi {
-        out[i] = level;
-        i += 1;
-    }
-}
-
 // What x has above y.
 pub fn above(x: usize, y: usize) -> usize
     ensures { λ r. ⌜ r ≡ x - y ⌝ }
@@ -243,7 +227,7 @@ pub fn fill(octets: &[u8], v: u8, a: usize, b: usize, out: &mut [u8])
         let level = octets[at];
         let run = known_run(octets, v, at);
         let end = bins + run.len;
-        stamp(out, above(bins, a), above(lesser(end, b), a), level);
+        lent::stamp(out, above(bins, a), above(lesser(end, b), a), level);
         bins = end;
         at = run.next;
     }

@@ -7,7 +7,7 @@ use native.Mathlib.Nat.{zero-add}
 use native.Mathlib.Omega.{arith}
 use lib.ListN.{length, drop, length-take, drop-of-length-le}
 use lib.Seq.{sets-eq, length-sets}
-use Rattle.runs.specs.Lent.{front}
+use Rattle.lent.specs.Lent.{front}
 use Rattle.stretches.specs.Stretch.{Entry, perEntry, wordsOf}
 use Rattle.stretches.specs.Call.{fitting, answer, answerOf, outOf}
 use Rattle.stretches.proofs.Laws.{length-words}

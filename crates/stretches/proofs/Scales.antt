@@ -6,7 +6,8 @@ use native.Mathlib.Omega.{arith}
 use lib.ListN.{getD, replicate}
 use lib.IntN.{ℤ}
 use Rattle.runs.specs.Run.{levels, digitSum}
-use Rattle.runs.proofs.Bins.{either, levels-nil, levels-open, levels-digit}
+use Rattle.octets.proofs.Orders.{by-order}
+use Rattle.runs.proofs.Bins.{levels-nil, levels-open, levels-digit}
 use Rattle.values.specs.Published.{levelCount}
 use Rattle.values.specs.Reading.{KindsBy}
 use Rattle.values.specs.declared.Product.{Product}
@@ -27,7 +28,7 @@ replicate-le v (suc n) x h (suc k) = replicate-le v n x h k
 pub level-le : (v : ℕ) (xs : List ℕ) (k : ℕ) → getD (levels v xs) k 0 ≤ v
 level-le v [] k = rw (levels-nil v) (omega arith)
 level-le v (o ∷ xs) k =
-    either o v
+    by-order o v
     (λ h. rw (levels-open v o xs h) (append-le v (replicate (1 + digitSum v 0 xs) o) (levels v xs) (replicate-le v (1 + digitSum v 0 xs) o h) (level-le v xs) k))
     (λ h. rw (levels-digit v o xs h) (level-le v xs k))
 

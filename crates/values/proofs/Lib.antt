@@ -1,7 +1,7 @@
 pub mod Signed
 pub mod Listed
 pub mod Magnitude
-pub mod Over
+pub mod Ray
 pub mod Octets
 pub mod Filled
 pub mod Readings

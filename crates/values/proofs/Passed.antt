@@ -6,7 +6,7 @@ use native.Mathlib.Omega.{arith}
 use lib.ListN.{length, take, drop, length-drop}
 use lib.Seq.{take-all, drop-drop}
 use Rattle.runs.specs.Run.{levels}
-use Rattle.runs.specs.Lent.{between}
+use Rattle.lent.specs.Lent.{between}
 use Rattle.runs.specs.Spot.{Holds}
 use Rattle.runs.specs.declared.Spot.{Spot}
 use Rattle.runs.proofs.Here.{stands-spot, here-inside}

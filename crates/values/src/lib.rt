@@ -8,7 +8,7 @@ ghost use mathlib.Core.Path.{_≡_};
 ghost use Prim.Native.Nat.{_≤_, _<_, _-_};
 ghost use lib.ListN.{length, replicate};
 ghost use Rattle.runs.specs.Run.{levels};
-ghost use Rattle.runs.specs.Lent.{placed, between};
+ghost use Rattle.lent.specs.Lent.{placed, between};
 ghost use Rattle.values.specs.Published.{levelCount, published, tableOf};
 ghost use Rattle.values.specs.Reading.{readingOf, markOf, kindOf, KindsBy};
 ghost use Rattle.values.specs.Ray.{marksOf, valuesOf};
@@ -146,26 +146,14 @@ pub fn kinds_by(product: Product, t: i32) -> [u32; 256]
     }
 }
 
-// One number, from lo up to hi.
-fn stamp_number(values: &mut [i32], lo: usize, hi: usize, z: i32)
-    requires { ⌜ (lo ≤ hi) × (hi ≤ length (now values)) ⌝ }
-    ensures { λ _. ⌜ now (values .exit) ≡ placed (now (values .entry)) lo (replicate (hi - lo) z) ⌝ }
-{
-    let mut i = lo;
-    while i < hi {
-        values[i] = z;
-        i += 1;
-    }
-}
-
 // A reading from lo up to hi of a ray: its mark in each place, and its number where it has one.
 fn put_reading(reading: Reading, lo: usize, hi: usize, marks: &mut [u8], values: &mut [i32])
     requires { ⌜ (lo ≤ hi) × (hi ≤ length (now marks)) × (hi ≤ length (now values)) ⌝ }
     ensures { λ _. ⌜ now (marks .exit) ≡ placed (now (marks .entry)) lo (replicate (hi - lo) (markOf reading)) ⌝ }
     ensures { λ _. ⌜ now (values .exit) ≡ placed (now (values .entry)) lo (replicate (numberedTo reading lo hi - lo) (numberOf reading)) ⌝ }
 {
-    runs::stamp(marks, lo, hi, mark_of(reading));
-    stamp_number(values, lo, numbered_to(reading, lo, hi), number_of(reading));
+    lent::stamp(marks, lo, hi, mark_of(reading));
+    lent::stamp_number(values, lo, numbered_to(reading, lo, hi), number_of(reading));
 }
 
 // The bins a up to b of what the octets give, run by run, however long their runs are: their marks at the front of `marks`, and their numbers in `values`.

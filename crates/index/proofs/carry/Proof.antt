@@ -6,8 +6,8 @@ use native.Mathlib.Omega.{arith}
 use lib.ListN.{length, take, drop, getD, set}
 use lib.Seq.{take-suc, length-take-le}
 use borrow.Author.Needs.{needs}
-use Rattle.runs.specs.Lent.{front}
-use Rattle.runs.proofs.Lent.{length-front}
+use Rattle.lent.specs.Lent.{front}
+use Rattle.lent.proofs.Lent.{length-front}
 use Rattle.index.proofs.Records.{front-put}
 use Rattle.index.proofs.carry.Statement.{statement}
 use Rattle.index.proofs.carry.Tie as tie

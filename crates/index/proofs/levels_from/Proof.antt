@@ -5,7 +5,7 @@ use mathlib.Core.Bool.{cond}
 use native.Mathlib.Omega.{arith}
 use Prim.Native.Nat.{ℕ, _<_}
 use lib.ListN.{length}
-use Rattle.runs.specs.Lent.{front}
+use Rattle.lent.specs.Lent.{front}
 use Rattle.index.specs.Index.{usable, fromRecord}
 use Rattle.index.proofs.Usable.{usable-outside, usable-from, to-end}
 use borrow.Author.Needs.{needs}

@@ -10,8 +10,8 @@ use lib.Seq.{take-at}
 use borrow.Author.Tests.{eqb-false, leb-true}
 use borrow.Author.Needs.{needs}
 use Rattle.runs.specs.Run.{levels}
-use Rattle.runs.specs.Lent.{front, between}
-use Rattle.runs.proofs.Lent.{length-between}
+use Rattle.lent.specs.Lent.{front, between}
+use Rattle.lent.proofs.Lent.{length-between}
 use Rattle.index.proofs.Usable.{over-opens, over-usable, other-usable}
 use Rattle.index.proofs.levels_in.Statement.{statement}
 use Rattle.index.proofs.levels_in.Tie as tie

@@ -8,8 +8,8 @@ use borrow.Author.Needs.{needs}
 use borrow.Author.Tests.{le-leb, lt-leb}
 use lib.ListN.{length, getD, drop, replicate}
 use Rattle.runs.specs.Run.{levels, runLen}
-use Rattle.runs.specs.Lent.{placed, between, front}
-use Rattle.runs.proofs.Lent.{painted, front-none, length-between, length-front}
+use Rattle.lent.specs.Lent.{placed, between, front}
+use Rattle.lent.proofs.Lent.{painted, front-none, length-between, length-front}
 use Rattle.runs.proofs.Here.{Stands, stands-first, here-low, here-run}
 use Rattle.runs.proofs.Upto.{more-here, none-here, cut-next}
 use Rattle.index.proofs.paint.Statement.{statement}

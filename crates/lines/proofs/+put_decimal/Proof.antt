@@ -4,7 +4,7 @@ use native.Mathlib.Nat.{div-lt-self, mod-lt}
 use native.Mathlib.Omega.{arith}
 use lib.ListN.{length-set}
 use Rattle.lines.proofs.Decimal.{decimal-longer, decimal-some}
-use Rattle.lines.proofs.Placing.{one-digit, last-digit}
+use Rattle.lines.proofs.Digits.{one-digit, last-digit}
 use Prim.Native.Nat.{ℕ, _+_, _/_, _<_}
 use borrow.Fn.Kinds.{In}
 use borrow.Fn.PlainCycle.{Measures, is, falls, and}

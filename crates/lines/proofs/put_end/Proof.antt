@@ -1,6 +1,6 @@
 -- `put_end` meets its contract, piece by piece.
 use Rattle.lines.specs.Text.{endLine}
-use Rattle.lines.proofs.Placing.{then}
+use Rattle.lent.proofs.Putting.{then}
 use borrow.Author.Needs.{needs}
 use Rattle.lines.proofs.put_end.Statement.{statement}
 use Rattle.lines.proofs.put_end.Tie as tie

@@ -4,9 +4,9 @@ use mathlib.Core.Path.{_≡_, refl, sym, ap, _∙_}
 use mathlib.Core.List.{List}
 use native.Mathlib.Omega.{arith}
 use lib.ListN.{length}
-use Rattle.runs.specs.Lent.{placed}
-use Rattle.runs.proofs.Lent.{placed-none}
-use Rattle.lines.specs.Put.{entryRoom}
+use Rattle.lent.specs.Lent.{placed}
+use Rattle.lent.proofs.Lent.{placed-none}
+use Rattle.lines.specs.Rooms.{entryRoom}
 use Rattle.lines.specs.Text.{entryLines}
 use Rattle.lines.specs.Words.{entriesIn}
 use Rattle.lines.proofs.Lines.{entries-none, more-put}

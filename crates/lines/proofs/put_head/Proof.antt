@@ -1,6 +1,6 @@
 -- `put_head` meets its contract, piece by piece.
 use Rattle.lines.specs.Text.{headLine}
-use Rattle.lines.proofs.Placing.{then}
+use Rattle.lent.proofs.Putting.{then}
 use borrow.Author.Needs.{needs}
 use Rattle.lines.proofs.put_head.Statement.{statement}
 use Rattle.lines.proofs.put_head.Tie as tie

@@ -1,7 +1,7 @@
 -- `put_kind` meets its contract: a word for each kind.
 use native.Mathlib.Omega.{arith}
 use Rattle.lines.specs.Text.{kindWord}
-use Rattle.lines.proofs.Placing.{named}
+use Rattle.lent.proofs.Putting.{named}
 use Rattle.lines.proofs.Lines.{kind-over}
 use borrow.Author.Needs.{needs}
 use Rattle.lines.proofs.put_kind.Statement.{statement}

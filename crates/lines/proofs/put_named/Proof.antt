@@ -1,7 +1,7 @@
 -- `put_named` meets its contract: the name, and then the number, which has at most twenty digits.
 use native.Mathlib.Omega.{arith}
 use Rattle.lines.proofs.Decimal.{twenty}
-use Rattle.lines.proofs.Placing.{then}
+use Rattle.lent.proofs.Putting.{then}
 use borrow.Author.Needs.{needs}
 use Rattle.lines.proofs.put_named.Statement.{statement}
 use Rattle.lines.proofs.put_named.Tie as tie

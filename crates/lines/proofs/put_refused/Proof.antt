@@ -1,6 +1,6 @@
 -- `put_refused` meets its contract, piece by piece.
 use Rattle.lines.specs.Text.{refusedLine}
-use Rattle.lines.proofs.Placing.{then}
+use Rattle.lent.proofs.Putting.{then}
 use borrow.Author.Needs.{needs}
 use Rattle.lines.proofs.put_refused.Statement.{statement}
 use Rattle.lines.proofs.put_refused.Tie as tie

@@ -5,10 +5,10 @@ use mathlib.Core.List.{List, _++_, [], append-nil}
 use native.Mathlib.Omega.{arith}
 use lib.ListN.{length, take, drop, length-drop}
 use borrow.Author.Needs.{needs}
-use Rattle.runs.specs.Lent.{front, placed}
+use Rattle.lent.specs.Lent.{front, placed}
 use Rattle.packing.specs.Write.{code, onFrom, written}
 use Rattle.packing.proofs.Digits.{on-same, on-other, on-end, written-start, written-empty}
-use Rattle.packing.proofs.Placing.{next-drop, next-fits, run-put, length-fronted}
+use Rattle.lent.proofs.Putting.{next-drop, next-fits, run-put, length-fronted}
 use lib.Seq.{take-all}
 use Rattle.packing.proofs.put_all.Statement.{statement}
 use Rattle.packing.proofs.put_all.Tie as tie

@@ -6,10 +6,10 @@ use native.Mathlib.Omega.{arith}
 use lib.ListN.{length, take, drop, set, length-set, length-drop}
 use borrow.Author.Needs.{needs}
 use Rattle.packing.specs.Write.{code, digitsOf}
-use Rattle.runs.specs.Lent.{placed}
+use Rattle.lent.specs.Lent.{placed}
 use Rattle.packing.proofs.Digits.{octetsOf, code-is, octets-none, octets-more, code-length}
-use Rattle.packing.proofs.Placing.{one-fits, one-left, one-put}
-use Rattle.runs.proofs.Lent.{length-placed, placed-set, first-put}
+use Rattle.lent.proofs.Putting.{one-fits, one-left, one-put}
+use Rattle.lent.proofs.Lent.{length-placed, placed-set, first-put}
 use lib.Seq.{length-take-le, take-all}
 use native.Mathlib.Nat.{mod-lt, div-lt-self}
 use Rattle.packing.proofs.put_run.Statement.{statement}

@@ -6,7 +6,7 @@ use native.Mathlib.Omega.{arith}
 use lib.ListN.{length}
 use lib.Dec.{leb}
 use borrow.Author.Tests.{lt-ltb, le-ltb, leb-true, leb-false, not-true, not-false}
-use Rattle.runs.specs.Lent.{front}
+use Rattle.lent.specs.Lent.{front}
 use Rattle.packing.specs.Write.{greatest, written, writeAnswer}
 use Rattle.packing.specs.declared.RunWrite.the-variants.{Wrote}
 use borrow.Author.Needs.{needs}

@@ -5,8 +5,8 @@ use mathlib.Core.List.{List}
 use native.Mathlib.Omega.{arith}
 use lib.ListN.{length, getD, drop, replicate}
 use Rattle.runs.specs.Run.{levels, runLen}
-use Rattle.runs.specs.Lent.{placed, between, front}
-use Rattle.runs.proofs.Lent.{painted, front-none, length-between, length-front}
+use Rattle.lent.specs.Lent.{placed, between, front}
+use Rattle.lent.proofs.Lent.{painted, front-none, length-between, length-front}
 use Rattle.runs.proofs.Here.{Stands, stands-spot, here-inside, here-run, here-known, here-next}
 use borrow.Author.Needs.{needs}
 use Rattle.runs.proofs.fill.Statement.{statement}

@@ -8,7 +8,7 @@ use lib.Seq.{take-all}
 use borrow.Author.Needs.{needs}
 use borrow.Author.Tests.{lt-ltb, le-ltb}
 use Rattle.runs.specs.Run.{levels, gives}
-use Rattle.runs.specs.Lent.{front}
+use Rattle.lent.specs.Lent.{front}
 use Rattle.runs.specs.Read.{readAnswer}
 use Rattle.runs.proofs.Here.{told, missed, gives-true}
 use Rattle.runs.proofs.run_read.Statement.{statement}

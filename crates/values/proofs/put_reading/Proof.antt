@@ -6,8 +6,8 @@ use lib.ListN.{replicate}
 use mir.Syntax.{w32}
 use mir.Facts.{toZ-ofZ}
 use borrow.Author.Needs.{needs}
-use Rattle.runs.specs.Lent.{placed}
-use Rattle.values.proofs.Over.{numbered-within}
+use Rattle.lent.specs.Lent.{placed}
+use Rattle.values.proofs.Ray.{numbered-within}
 use Rattle.values.proofs.put_reading.Statement.{statement}
 use Rattle.values.proofs.put_reading.Tie as tie
 

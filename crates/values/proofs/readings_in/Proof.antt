@@ -7,22 +7,24 @@ use native.Mathlib.Omega.{arith}
 use lib.ListN.{length, getD, take, drop, replicate}
 use borrow.Author.Needs.{needs}
 use Rattle.runs.specs.Run.{levels, runLen}
-use Rattle.runs.specs.Lent.{placed, between}
-use Rattle.runs.proofs.Lent.{between-more, length-between}
+use Rattle.lent.specs.Lent.{placed, between}
+use Rattle.lent.proofs.Lent.{between-more, length-between}
 use Rattle.runs.proofs.Here.{Stands, stands-first, here-inside, here-low, here-run}
 use Rattle.runs.proofs.Upto.{cut-next}
-use Rattle.values.specs.Ray.{over, markAt, heldAt, marksOf, valuesOf}
+use Rattle.lent.specs.Lent.{updated}
+use Rattle.values.specs.Ray.{markAt, heldAt, marksOf, valuesOf}
 use Rattle.values.specs.Reading.{markOf}
 use Rattle.values.specs.Row.{numberOf, numberedTo}
 use Rattle.values.proofs.Passed.{base-low}
-use Rattle.values.proofs.Over.{over-none, over-length, marks-run, values-run}
+use Rattle.lent.proofs.Updated.{updated-none, updated-length}
+use Rattle.values.proofs.Ray.{marks-run, values-run}
 use Rattle.values.proofs.readings_in.Statement.{statement}
 use Rattle.values.proofs.readings_in.Tie as tie
 
 abbrev Inv-loop : tie.InvT-loop
 Inv-loop product table octets v a b marks₀ values₀ at₀ bins₀ marks values at bins =
     ((bins ≤ b) × (bins ≤ length (levels v octets)) × (bins < b → Stands v octets at bins))
-    × (marks ≡ over (markAt product) (between a bins (levels v octets)) marks₀) × (values ≡ over (heldAt product) (between a bins (levels v octets)) values₀)
+    × (marks ≡ updated (markAt product) (between a bins (levels v octets)) marks₀) × (values ≡ updated (heldAt product) (between a bins (levels v octets)) values₀)
 
 abbrev μ-loop : tie.MeasureT-loop
 μ-loop product table octets v a b marks₀ values₀ at₀ bins₀ marks values at bins = b - bins
@@ -42,10 +44,10 @@ row c = levels (start c .args .v) (start c .args .octets .now)
 
 -- the buffers keep their lengths
 size-marks : (c : tie.At-loop Inv-loop μ-loop) → length (c .loop .marks) ≡ length (start c .args .marks .now)
-size-marks c = ap length (c .loop .inv .1) ∙ over-length _ _ _
+size-marks c = ap length (c .loop .inv .1) ∙ updated-length _ _ _
 
 size-values : (c : tie.At-loop Inv-loop μ-loop) → length (c .loop .values) ≡ length (start c .args .values .now)
-size-values c = ap length (c .loop .inv .2) ∙ over-length _ _ _
+size-values c = ap length (c .loop .inv .2) ∙ updated-length _ _ _
 
 -- within the row, a run stands at the place in hand
 more : (c : tie.At-loop Inv-loop μ-loop) → c .loop .bins < start c .args .b → c .loop .bins < length (row c)
@@ -65,8 +67,8 @@ loop-holds c = let s = c .before .before in
     let none : 0 - s .args .a ≡ 0 = omega arith in
     let bare : between (s .args .a) 0 L ≡ take 0 (drop (s .args .a) L) = ap (λ (n : ℕ). take n (drop (s .args .a) L)) none in (
       (omega arith, omega arith, λ _. stands-first (s .args .v) (s .args .octets .now) (s .pre .1 .opened)),
-      sym (ap (λ (l : List ℕ). over (markAt (s .args .product)) l (s .args .marks .now)) bare ∙ over-none (markAt (s .args .product)) (drop (s .args .a) L) (s .args .marks .now)),
-      sym (ap (λ (l : List ℕ). over (heldAt (s .args .product)) l (s .args .values .now)) bare ∙ over-none (heldAt (s .args .product)) (drop (s .args .a) L) (s .args .values .now)),
+      sym (ap (λ (l : List ℕ). updated (markAt (s .args .product)) l (s .args .marks .now)) bare ∙ updated-none (markAt (s .args .product)) (drop (s .args .a) L) (s .args .marks .now)),
+      sym (ap (λ (l : List ℕ). updated (heldAt (s .args .product)) l (s .args .values .now)) bare ∙ updated-none (heldAt (s .args .product)) (drop (s .args .a) L) (s .args .values .now)),
     )
 
 shared-slice-read-reading-in : tie.Need-shared-slice-read-reading-in Inv-loop μ-loop
@@ -139,11 +141,11 @@ loop-again c =
       c .before .before .before .put-reading .ensures .0
           ∙ (λ i. placed (l .inv .1 i) (lo i) (replicate (many i) (markOf (reading i))))
           ∙ marks-run (s .args .product) x had (s .args .marks .now) k (omega (arith, room, s .pre .1 .room-marks))
-          ∙ ap (λ (ls : List ℕ). over (markAt (s .args .product)) ls (s .args .marks .now)) (sym grown),
+          ∙ ap (λ (ls : List ℕ). updated (markAt (s .args .product)) ls (s .args .marks .now)) (sym grown),
       c .before .before .before .put-reading .ensures .1
           ∙ (λ i. placed (l .inv .2 i) (lo i) (replicate (numberedTo (reading i) (lo i) (hi i) - lo i) (numberOf (reading i))))
           ∙ values-run (s .args .product) x had (s .args .values .now) k (omega (arith, room, s .pre .1 .room-values))
-          ∙ ap (λ (ls : List ℕ). over (heldAt (s .args .product)) ls (s .args .values .now)) (sym grown),
+          ∙ ap (λ (ls : List ℕ). updated (heldAt (s .args .product)) ls (s .args .values .now)) (sym grown),
     )
 
 same-length : tie.Need-same-length Inv-loop μ-loop
@@ -157,8 +159,8 @@ unfolding marksOf valuesOf
 returns c = let h = c .before in
     let s = start h in
     let all : h .loop .bins ≡ s .args .b = omega (arith, c .loop-test .left, h .loop .inv .0 .0) in (
-      h .loop .inv .1 ∙ ap (λ (n : ℕ). over (markAt (s .args .product)) (between (s .args .a) n (row h)) (s .args .marks .now)) all,
-      h .loop .inv .2 ∙ ap (λ (n : ℕ). over (heldAt (s .args .product)) (between (s .args .a) n (row h)) (s .args .values .now)) all,
+      h .loop .inv .1 ∙ ap (λ (n : ℕ). updated (markAt (s .args .product)) (between (s .args .a) n (row h)) (s .args .marks .now)) all,
+      h .loop .inv .2 ∙ ap (λ (n : ℕ). updated (heldAt (s .args .product)) (between (s .args .a) n (row h)) (s .args .values .now)) all,
     )
 
 pub readings-in-spec : {M : Type 1} → statement M

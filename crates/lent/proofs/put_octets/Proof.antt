@@ -6,11 +6,11 @@ use native.Mathlib.Omega.{arith}
 use lib.ListN.{length, take, set, getD}
 use lib.Seq.{length-take-le, take-all}
 use borrow.Author.Needs.{needs}
-use Rattle.runs.specs.Lent.{placed}
-use Rattle.runs.proofs.Lent.{placed-none, length-placed}
-use Rattle.lines.proofs.Placing.{one-more}
-use Rattle.lines.proofs.put_octets.Statement.{statement}
-use Rattle.lines.proofs.put_octets.Tie as tie
+use Rattle.lent.specs.Lent.{placed}
+use Rattle.lent.proofs.Lent.{placed-none, length-placed}
+use Rattle.lent.proofs.Putting.{one-more}
+use Rattle.lent.proofs.put_octets.Statement.{statement}
+use Rattle.lent.proofs.put_octets.Tie as tie
 
 abbrev Inv-loop : tie.InvT-loop
 Inv-loop out₀ at s i₀ out i = (i ≤ length s) × (out ≡ placed out₀ at (take i s))

@@ -9,10 +9,10 @@ use mir.Syntax.{w32}
 use mir.Val.{toZ, ofZ}
 use mir.Facts.{toZ-ofZ}
 use borrow.Author.Needs.{scaled-fits}
-use Rattle.runs.specs.Lent.{placed}
-use Rattle.runs.proofs.Lent.{row-none, row-more, row-length}
-use Rattle.values.proofs.stamp_number.Statement.{statement}
-use Rattle.values.proofs.stamp_number.Tie as tie
+use Rattle.lent.specs.Lent.{placed}
+use Rattle.lent.proofs.Lent.{row-none, row-more, row-length}
+use Rattle.lent.proofs.stamp_number.Statement.{statement}
+use Rattle.lent.proofs.stamp_number.Tie as tie
 
 abbrev Inv-loop : tie.InvT-loop
 Inv-loop values₀ lo hi z i₀ values i = (lo ≤ i) × (i ≤ hi) × (values ≡ placed values₀ lo (replicate (i - lo) (toZ w32 z)))

@@ -3,11 +3,12 @@ use Prim.Native.Nat.{ℕ, suc, _+_, _-_, _≤_, _<_}
 use mathlib.Core.Path.{_≡_, sym, ap, _∙_}
 use mathlib.Core.List.{List, [], _∷_, _++_, append-assoc}
 use native.Mathlib.Nat.{add-zero}
+use native.Mathlib.Numerals.{add-one}
 use native.Mathlib.Omega.{arith}
 use lib.ListN.{length, replicate, take, drop, set, getD, take-append-drop, length-append, length-replicate, length-drop, replicate-append-replicate}
 use lib.Seq.{take-set-le, drop-set-lt, set-at, length-take-le, drop-cons, take-at, drop-at, take-add, drop-drop, drop-append-add, take-append-seam}
-use Rattle.runs.proofs.Bins.{either}
-use Rattle.runs.specs.Lent.{front, placed, between}
+use Rattle.octets.proofs.Orders.{by-order}
+use Rattle.lent.specs.Lent.{front, placed, between}
 
 pub placed-none : {A : Type 0} (d : List A) (at : ℕ) → d ≡ placed d at []
 unfolding placed
@@ -81,6 +82,10 @@ row-one d lo x h =
 pub row-all : {A : Type 0} (d : List A) (lo hi : ℕ) (x : A) → lo < hi → placed (set d lo x) lo (replicate (hi - lo) x) ≡ placed d lo (replicate (hi - lo) x)
 row-all d lo hi x h = placed-set d lo x (replicate (hi - lo) x) (omega (arith, length-replicate (hi - lo) x))
 
+-- ---- a list from a place on
+pub drop-here : (l : List ℕ) (i : ℕ) → i < length l → drop i l ≡ getD l i 0 ∷ drop (i + 1) l
+drop-here l i h = drop-cons l i 0 h ∙ ap (λ (k : ℕ). getD l i 0 ∷ drop k l) (sym (add-one i))
+
 -- ---- a part of a row of levels
 pub length-between : (L : List ℕ) (a e : ℕ) → e ≤ length L → length (between a e L) ≡ e - a
 length-between L a e h = length-take-le (e - a) (drop a L) (simp length-drop (omega arith))
@@ -110,7 +115,7 @@ within j k m x R h =
 module _ (L R d : List ℕ) (a bins to m x : ℕ) (le : bins ≤ to) (run : drop bins L ≡ replicate m x ++ R) (inside : to ≤ bins + m) where
   pub between-more : between a to L ≡ between a bins L ++ replicate ((to - a) - (bins - a)) x
   between-more =
-      either to a
+      by-order to a
       (λ h.
       let z : to - a ≡ 0 = omega arith in
       let y : bins - a ≡ 0 = omega arith in

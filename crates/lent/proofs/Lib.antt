@@ -1,0 +1,4 @@
+pub mod Lent
+pub mod Putting
+pub mod Updated
+pub mod Numbers
