@@ -1,14 +1,14 @@
 // Template 7.200, writing: levels to octets, by document 01's "Run-length rule". What it writes reads back as the same levels (proofs/ReadBack.antt).
-// Below stands the crate `runs`, which has the one definition of decoding; above stand the calls for C and Rust.
+// Below stands the crate `runs`, which has the one definition of decoding; above stands `bare`, with the call.
 ghost use mathlib.Core.Path.{_≡_};
 ghost use Prim.Native.Nat.{_≤_, _+_};
 ghost use lib.ListN.{length};
 ghost use lib.Dec.{leb};
 ghost use Rattle.lent.specs.Lent.{front, placed};
-ghost use Rattle.packing.specs.Write.{greatest, digitsOf, code, written, WritePromise};
+ghost use Rattle.packing.specs.Write.{greatest, digitsOf, code, written};
 
 // The greatest level.
-fn greatest_of(levels: &[u8]) -> u8
+pub fn greatest_of(levels: &[u8]) -> u8
     ensures { λ r. ⌜ r ≡ greatest (now (levels .entry)) ⌝ }
 {
     let mut m: u8 = 0;
@@ -83,7 +83,7 @@ fn put_run(out: &mut [u8], at: usize, v: u8, x: u8, k: usize) -> usize
 }
 
 // Whether the octets for the levels fit a room. They are never more than the levels, so that it seldom takes a pass to tell.
-fn has_room(levels: &[u8], v: u8, room: usize) -> bool
+pub fn has_room(levels: &[u8], v: u8, room: usize) -> bool
     requires { ⌜ (v ≤ 252) × (length (now levels) ≤ 2097152) ⌝ }
     ensures { λ r. ⌜ r ≡ leb (length (written v (now (levels .entry)))) room ⌝ }
 {
@@ -94,7 +94,7 @@ fn has_room(levels: &[u8], v: u8, room: usize) -> bool
 }
 
 // All runs at the front of out; how many octets they are.
-fn put_all(levels: &[u8], v: u8, out: &mut [u8]) -> usize
+pub fn put_all(levels: &[u8], v: u8, out: &mut [u8]) -> usize
     requires { ⌜ (v ≤ 252) × (length (now levels) ≤ 2097152) × (length (written v (now levels)) ≤ length (now out)) ⌝ }
     ensures { λ r. ⌜ r ≡ length (written v (now (levels .entry))) ⌝ }
     ensures { λ _. ⌜ now (out .exit) ≡ front (written v (now (levels .entry))) (now (out .entry)) ⌝ }
@@ -118,34 +118,4 @@ fn put_all(levels: &[u8], v: u8, out: &mut [u8]) -> usize
         }
     }
     put_run(out, at, v, x, k)
-}
-
-// Why run write refuses, a case for each of document 01's numbers: 10 (too many levels, or a level over 252) and 11.
-pub enum WriteRefusal {
-    LevelsOutOfRange,
-    RoomTooShort,
-}
-
-// What run write answers: V and the number of octets, or a refusal.
-pub enum RunWrite {
-    Wrote { v: u8, len: usize },
-    Refused(WriteRefusal),
-}
-
-// Run write: the octets for the levels, at the front of out.
-pub fn run_write(levels: &[u8], out: &mut [u8]) -> RunWrite
-    ensures { λ r. ⌜ WritePromise (now (levels .entry)) (now (out .entry)) r (now (out .exit)) ⌝ }
-{
-    if 2097152 < levels.len() {
-        return RunWrite::Refused(WriteRefusal::LevelsOutOfRange);
-    }
-    let v = greatest_of(levels);
-    if 252 < v {
-        return RunWrite::Refused(WriteRefusal::LevelsOutOfRange);
-    }
-    if !has_room(levels, v, out.len()) {
-        return RunWrite::Refused(WriteRefusal::RoomTooShort);
-    }
-    let len = put_all(levels, v, out);
-    RunWrite::Wrote { v, len }
 }

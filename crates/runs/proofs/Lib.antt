@@ -4,5 +4,4 @@ pub mod Steps
 pub mod Here
 pub mod Digits
 pub mod Meaning
-pub mod Calls
 pub mod Upto

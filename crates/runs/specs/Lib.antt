@@ -1,4 +1,3 @@
 pub mod Run
 pub mod Runs
-pub mod Read
 pub mod Spot

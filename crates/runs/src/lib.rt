@@ -1,6 +1,7 @@
 // Template 7.200, reading: octets to levels under a greatest level V, by document 01's "Run-length rule".
-// specs/Run.antt holds the one definition of decoding, `levels`. Nothing stands below; the crates `packing` (writing), `base_format` (a
-// file's data), `stretches` (the list, run by run) and `polar` (the calls of a file) stand above and go by `levels`, `gives` and their laws.
+// specs/Run.antt holds the one definition of decoding, `levels`. The functions ask of their callers what is known to them; the calls that ask nothing are in
+// `bare`. Below stands `lent`; the crates `packing` (writing), `base_format` (a file's data) and `stretches` (the list, run by run) stand above and go by
+// `levels`, `gives` and their laws.
 ghost use mathlib.Core.Bool.{true};
 ghost use mathlib.Core.Path.{_≡_};
 ghost use Prim.Native.Nat.{_≤_, _<_, _-_, min};
@@ -8,7 +9,6 @@ ghost use lib.ListN.{length, replicate, getD};
 ghost use Rattle.runs.specs.Run.{levels, opens, scanned, runLen, runNext, stepAt};
 ghost use Rattle.lent.specs.Lent.{front, between};
 ghost use Rattle.runs.specs.Spot.{Holds};
-ghost use Rattle.runs.specs.Read.{ReadPromise, CheckPromise};
 
 // Whether octets give exactly the bins wanted.
 pub enum Scan {
@@ -230,69 +230,5 @@ pub fn fill(octets: &[u8], v: u8, a: usize, b: usize, out: &mut [u8])
         lent::stamp(out, above(bins, a), above(lesser(end, b), a), level);
         bins = end;
         at = run.next;
-    }
-}
-
-// Why run read refuses, a case for each of document 01's numbers: 12, 10, 11, 8.
-pub enum ReadRefusal {
-    VOver253,
-    TooManyBins,
-    RoomTooShort,
-    WrongBins,
-}
-
-// What run read answers: the levels are written, or a refusal.
-pub enum RunRead {
-    Read,
-    Refused(ReadRefusal),
-}
-
-// Run read: the n levels that the octets give under V, at the front of out.
-pub fn run_read(octets: &[u8], v: u8, n: usize, out: &mut [u8]) -> RunRead
-    ensures { λ r. ⌜ ReadPromise v n (now (octets .entry)) (now (out .entry)) r (now (out .exit)) ⌝ }
-{
-    if 253 < v {
-        return RunRead::Refused(ReadRefusal::VOver253);
-    }
-    if 2097152 < n { // 10 comes before 11
-        return RunRead::Refused(ReadRefusal::TooManyBins);
-    }
-    if out.len() < n {
-        return RunRead::Refused(ReadRefusal::RoomTooShort);
-    }
-    let found = scan_runs(octets, v, n);
-    let Scan::Exact = found else {
-        return RunRead::Refused(ReadRefusal::WrongBins);
-    };
-    fill(octets, v, 0, n, out);
-    RunRead::Read
-}
-
-// Why run check refuses: 12, 10, 8.
-pub enum CheckRefusal {
-    VOver253,
-    TooManyBins,
-    WrongBins,
-}
-
-// What run check answers.
-pub enum RunCheck {
-    Gives,
-    Refused(CheckRefusal),
-}
-
-// Run check: whether octets give exactly n bins under V, as run read would find, with nothing lent.
-pub fn run_check(octets: &[u8], v: u8, n: usize) -> RunCheck
-    ensures { λ r. ⌜ CheckPromise v n (now (octets .entry)) r ⌝ }
-{
-    if 253 < v {
-        return RunCheck::Refused(CheckRefusal::VOver253);
-    }
-    if 2097152 < n {
-        return RunCheck::Refused(CheckRefusal::TooManyBins);
-    }
-    match scan_runs(octets, v, n) {
-        Scan::Exact => RunCheck::Gives,
-        Scan::Off => RunCheck::Refused(CheckRefusal::WrongBins),
     }
 }

@@ -7,11 +7,12 @@ use lib.ListN.{length}
 use lib.Dec.{leb}
 use borrow.Author.Tests.{lt-ltb, le-ltb, leb-true, leb-false, not-true, not-false}
 use Rattle.lent.specs.Lent.{front}
-use Rattle.packing.specs.Write.{greatest, written, writeAnswer}
-use Rattle.packing.specs.declared.RunWrite.the-variants.{Wrote}
+use Rattle.packing.specs.Write.{greatest, written}
+use Rattle.bare.specs.Write.{writeAnswer}
+use Rattle.bare.specs.declared.RunWrite.the-variants.{Wrote}
 use borrow.Author.Needs.{needs}
-use Rattle.packing.proofs.run_write.Statement.{statement}
-use Rattle.packing.proofs.run_write.Tie as tie
+use Rattle.bare.proofs.run_write.Statement.{statement}
+use Rattle.bare.proofs.run_write.Tie as tie
 
 returns : tie.Need-returns
 unfolding writeAnswer

@@ -7,18 +7,18 @@ use native.Mathlib.Omega.{arith}
 use lib.ListN.{length}
 use lib.Dec.{ltb}
 use borrow.Author.Tests.{le-ltb, ltb-false}
 use Rattle.runs.specs.Run.{levels, gives}
 use Rattle.runs.specs.Runs.{Decodes}
 use Rattle.lent.specs.Lent.{front}
-use Rattle.runs.specs.Read.{readAnswer, readOut, ReadPromise, Readable, checkAnswer, CheckPromise}
-use Rattle.runs.specs.declared.ReadRefusal.{ReadRefusal}
-use Rattle.runs.specs.declared.ReadRefusal.the-variants as F
-use Rattle.runs.specs.declared.RunRead.{RunRead}
-use Rattle.runs.specs.declared.RunRead.the-variants as R
-use Rattle.runs.specs.declared.CheckRefusal.the-variants as C
-use Rattle.runs.specs.declared.RunCheck.{RunCheck}
-use Rattle.runs.specs.declared.RunCheck.the-variants as K
+use Rattle.bare.specs.Read.{readAnswer, readOut, ReadPromise, Readable, checkAnswer, CheckPromise}
+use Rattle.bare.specs.declared.ReadRefusal.{ReadRefusal}
+use Rattle.bare.specs.declared.ReadRefusal.the-variants as F
+use Rattle.bare.specs.declared.RunRead.{RunRead}
+use Rattle.bare.specs.declared.RunRead.the-variants as R
+use Rattle.bare.specs.declared.CheckRefusal.the-variants as C
+use Rattle.bare.specs.declared.RunCheck.{RunCheck}
+use Rattle.bare.specs.declared.RunCheck.the-variants as K
 use Rattle.runs.proofs.Meaning.{decodes-levels, gives-exactly, exactly-gives}
 
 -- ---- run read
 refused-not-read : (why : ReadRefusal) → R.Refused why ≡ R.Read → ⊥
@@ -35,17 +35,17 @@ gave false why e = absurd (refused-not-read why e)
 read-readable : (v n room : ℕ) (s : List ℕ) → readAnswer v n room s ≡ R.Read → Readable v n room s
 unfolding readAnswer
 read-readable v n room s e =
-    let last : RunRead = cond (gives v n s) R.Read (R.Refused F.WrongBins) in
-    let third : RunRead = cond (ltb room n) (R.Refused F.RoomTooShort) last in
-    let second : RunRead = cond (ltb 2097152 n) (R.Refused F.TooManyBins) third in
-    let one = passes (ltb 253 v) F.VOver253 second e in
-    let two = passes (ltb 2097152 n) F.TooManyBins third (one .1) in
-    let three = passes (ltb room n) F.RoomTooShort last (two .1) in
+    let last : RunRead = cond (gives v n s) R.Read (R.Refused F.Data) in
+    let third : RunRead = cond (ltb room n) (R.Refused F.Room) last in
+    let second : RunRead = cond (ltb 2097152 n) (R.Refused F.Argument) third in
+    let one = passes (ltb 253 v) F.V second e in
+    let two = passes (ltb 2097152 n) F.Argument third (one .1) in
+    let three = passes (ltb room n) F.Room last (two .1) in
     record {
       low = ltb-false 253 v (one .0);
       few = ltb-false 2097152 n (two .0);
       room-enough = ltb-false room n (three .0);
-      exactly = gives-exactly v n s (gave (gives v n s) F.WrongBins (three .1));
+      exactly = gives-exactly v n s (gave (gives v n s) F.Data (three .1));
     }
 
 readable-read : (v n room : ℕ) (s : List ℕ) → Readable v n room s → readAnswer v n room s ≡ R.Read
@@ -79,13 +79,13 @@ read-one {v} {n} {s} {d} p q =
 -- an answer of run read where room is no matter
 unfoldable pub asCheck : RunRead → RunCheck
 asCheck R.Read = K.Gives
-asCheck (R.Refused F.VOver253) = K.Refused C.VOver253
-asCheck (R.Refused F.TooManyBins) = K.Refused C.TooManyBins
-asCheck (R.Refused F.RoomTooShort) = K.Gives
-asCheck (R.Refused F.WrongBins) = K.Refused C.WrongBins
+asCheck (R.Refused F.V) = K.Refused C.V
+asCheck (R.Refused F.Argument) = K.Refused C.Argument
+asCheck (R.Refused F.Room) = K.Gives
+asCheck (R.Refused F.Data) = K.Refused C.Data
 
 by-test : (a b c : Bool) →
-    asCheck (cond a (R.Refused F.VOver253) (cond b (R.Refused F.TooManyBins) (cond c R.Read (R.Refused F.WrongBins)))) ≡ cond a (K.Refused C.VOver253) (cond b (K.Refused C.TooManyBins) (cond c K.Gives (K.Refused C.WrongBins)))
+    asCheck (cond a (R.Refused F.V) (cond b (R.Refused F.Argument) (cond c R.Read (R.Refused F.Data)))) ≡ cond a (K.Refused C.V) (cond b (K.Refused C.Argument) (cond c K.Gives (K.Refused C.Data)))
 unfolding asCheck
 by-test true b c = refl
 by-test false true c = refl

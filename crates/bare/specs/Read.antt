@@ -5,25 +5,25 @@ use mathlib.Core.List.{List}
 use mathlib.Core.Bool.{cond}
 use lib.ListN.{length}
 use lib.Dec.{ltb}
 use Rattle.runs.specs.Run.{levels, gives}
 use Rattle.runs.specs.Runs.{Exactly}
 use Rattle.lent.specs.Lent.{front}
-use Rattle.runs.specs.declared.ReadRefusal.{ReadRefusal}
-use Rattle.runs.specs.declared.ReadRefusal.the-variants.{VOver253, TooManyBins, RoomTooShort, WrongBins}
-use Rattle.runs.specs.declared.RunRead.{RunRead}
-use Rattle.runs.specs.declared.RunRead.the-variants.{Read, Refused}
-use Rattle.runs.specs.declared.CheckRefusal.{CheckRefusal}
-use Rattle.runs.specs.declared.CheckRefusal.the-variants as C
-use Rattle.runs.specs.declared.RunCheck.{RunCheck}
-use Rattle.runs.specs.declared.RunCheck.the-variants as K
+use Rattle.bare.specs.declared.ReadRefusal.{ReadRefusal}
+use Rattle.bare.specs.declared.ReadRefusal.the-variants as F
+use Rattle.bare.specs.declared.RunRead.{RunRead}
+use Rattle.bare.specs.declared.RunRead.the-variants.{Read, Refused}
+use Rattle.bare.specs.declared.CheckRefusal.{CheckRefusal}
+use Rattle.bare.specs.declared.CheckRefusal.the-variants as C
+use Rattle.bare.specs.declared.RunCheck.{RunCheck}
+use Rattle.bare.specs.declared.RunCheck.the-variants as K
 
 -- "n levels at the front of a lent buffer"; "Run read: 12, 10, 11, 8"
 unfoldable pub readAnswer : ℕ → ℕ → ℕ → List ℕ → RunRead
 readAnswer v n room s =
-    cond (ltb 253 v) (Refused VOver253)
-    (cond (ltb 2097152 n) (Refused TooManyBins)
-    (cond (ltb room n) (Refused RoomTooShort)
-    (cond (gives v n s) Read (Refused WrongBins))))
+    cond (ltb 253 v) (Refused F.V)
+    (cond (ltb 2097152 n) (Refused F.Argument)
+    (cond (ltb room n) (Refused F.Room)
+    (cond (gives v n s) Read (Refused F.Data))))
 
 -- the lent levels d after it, p what the octets give: a refusal "changes no lent memory"
 abbrev pub readOut : RunRead → List ℕ → List ℕ → List ℕ
@@ -44,34 +44,29 @@ pub record ReadPromise (v n : ℕ) (s d : List ℕ) (answer : RunRead) (out : Li
 
 -- "A refusal returns its number and a place", which is 0 for the bare run calls
 abbrev pub readNumber : ReadRefusal → ℕ
-readNumber VOver253 = 12
-readNumber TooManyBins = 10
-readNumber RoomTooShort = 11
-readNumber WrongBins = 8
+readNumber F.V = 12
+readNumber F.Argument = 10
+readNumber F.Room = 11
+readNumber F.Data = 8
 
 abbrev pub readPlace : ReadRefusal → ℕ
-readPlace VOver253 = 0
-readPlace TooManyBins = 0
-readPlace RoomTooShort = 0
-readPlace WrongBins = 0
+readPlace F.V = 0
+readPlace F.Argument = 0
+readPlace F.Room = 0
+readPlace F.Data = 0
 
 -- run check: what run read would find, with nothing lent: 12, 10, 8
 unfoldable pub checkAnswer : ℕ → ℕ → List ℕ → RunCheck
 checkAnswer v n s =
-    cond (ltb 253 v) (K.Refused C.VOver253)
-    (cond (ltb 2097152 n) (K.Refused C.TooManyBins)
-    (cond (gives v n s) K.Gives (K.Refused C.WrongBins)))
+    cond (ltb 253 v) (K.Refused C.V)
+    (cond (ltb 2097152 n) (K.Refused C.Argument)
+    (cond (gives v n s) K.Gives (K.Refused C.Data)))
 
 -- the promise of run check
 pub record CheckPromise (v n : ℕ) (s : List ℕ) (answer : RunCheck) : Type 0 where
   pub answered : answer ≡ checkAnswer v n s
 
 abbrev pub checkNumber : CheckRefusal → ℕ
-checkNumber C.VOver253 = 12
-checkNumber C.TooManyBins = 10
-checkNumber C.WrongBins = 8
-
-abbrev pub checkPlace : CheckRefusal → ℕ
-checkPlace C.VOver253 = 0
-checkPlace C.TooManyBins = 0
-checkPlace C.WrongBins = 0
+checkNumber C.V = 12
+checkNumber C.Argument = 10
+checkNumber C.Data = 8

@@ -2,11 +2,11 @@
 use mathlib.Core.Path.{sym, _∙_}
 use borrow.Author.Needs.{needs}
 use borrow.Author.Tests.{lt-ltb, le-ltb}
 use Rattle.runs.specs.Run.{gives}
-use Rattle.runs.specs.Read.{checkAnswer}
+use Rattle.bare.specs.Read.{checkAnswer}
 use Rattle.runs.proofs.Here.{told, missed}
-use Rattle.runs.proofs.run_check.Statement.{statement}
-use Rattle.runs.proofs.run_check.Tie as tie
+use Rattle.bare.proofs.run_check.Statement.{statement}
+use Rattle.bare.proofs.run_check.Tie as tie
 
 returns : tie.Need-returns
 unfolding checkAnswer

@@ -7,12 +7,12 @@ use native.Mathlib.Omega.{arith}
 use lib.Seq.{take-all}
 use borrow.Author.Needs.{needs}
 use borrow.Author.Tests.{lt-ltb, le-ltb}
 use Rattle.runs.specs.Run.{levels, gives}
 use Rattle.lent.specs.Lent.{front}
-use Rattle.runs.specs.Read.{readAnswer}
+use Rattle.bare.specs.Read.{readAnswer}
 use Rattle.runs.proofs.Here.{told, missed, gives-true}
-use Rattle.runs.proofs.run_read.Statement.{statement}
-use Rattle.runs.proofs.run_read.Tie as tie
+use Rattle.bare.proofs.run_read.Statement.{statement}
+use Rattle.bare.proofs.run_read.Tie as tie
 
 returns : tie.Need-returns
 unfolding readAnswer

@@ -11,17 +11,18 @@ use borrow.Author.Tests.{le-ltb, ltb-false}
 use Rattle.runs.specs.Run.{levels}
 use Rattle.runs.specs.Runs.{Decodes, Exactly}
 use Rattle.lent.specs.Lent.{front}
-use Rattle.runs.specs.Read.{ReadPromise}
-use Rattle.runs.specs.declared.RunRead.{RunRead}
-use Rattle.runs.specs.declared.RunRead.the-variants as R
+use Rattle.bare.specs.Read.{ReadPromise}
+use Rattle.bare.specs.declared.RunRead.{RunRead}
+use Rattle.bare.specs.declared.RunRead.the-variants as R
 use Rattle.runs.proofs.Meaning.{gives-exactly, levels-decode}
-use Rattle.runs.proofs.Calls.{read-where, read-levels}
-use Rattle.packing.specs.Write.{greatest, written, packed, writeAnswer, writeOut, Writable, WritePromise}
-use Rattle.packing.specs.declared.WriteRefusal.{WriteRefusal}
-use Rattle.packing.specs.declared.WriteRefusal.the-variants.{LevelsOutOfRange, RoomTooShort}
-use Rattle.packing.specs.declared.RunWrite.{RunWrite}
-use Rattle.packing.specs.declared.RunWrite.the-variants.{Wrote, Refused}
+use Rattle.bare.proofs.Read.{read-where, read-levels}
+use Rattle.packing.specs.Write.{greatest, written, packed}
+use Rattle.bare.specs.Write.{writeAnswer, writeOut, Writable, WritePromise}
+use Rattle.bare.specs.declared.WriteRefusal.{WriteRefusal}
+use Rattle.bare.specs.declared.WriteRefusal.the-variants.{Argument, Room}
+use Rattle.bare.specs.declared.RunWrite.{RunWrite}
+use Rattle.bare.specs.declared.RunWrite.the-variants.{Wrote, Refused}
 use Rattle.packing.proofs.ReadBack.{written-levels, written-opens, written-gives}
 
 refused-not-wrote : (why : WriteRefusal) (v n : ℕ) → Refused why ≡ Wrote v n → ⊥
 refused-not-wrote why v n e = let z : _≡_ {A = ℕ} 0 1 = cc e in omega arith
@@ -34,11 +35,11 @@ wrote-writable : (room : ℕ) (s : List ℕ) (v n : ℕ) → writeAnswer room s 
 unfolding writeAnswer
 wrote-writable room s v n e =
     let last : RunWrite = Wrote (greatest s) (length (packed s)) in
-    let third : RunWrite = cond (ltb room (length (packed s))) (Refused RoomTooShort) last in
-    let second : RunWrite = cond (ltb 252 (greatest s)) (Refused LevelsOutOfRange) third in
-    let one = passes (ltb 2097152 (length s)) LevelsOutOfRange second v n e in
-    let two = passes (ltb 252 (greatest s)) LevelsOutOfRange third v n (one .1) in
-    let three = passes (ltb room (length (packed s))) RoomTooShort last v n (two .1) in
+    let third : RunWrite = cond (ltb room (length (packed s))) (Refused Room) last in
+    let second : RunWrite = cond (ltb 252 (greatest s)) (Refused Argument) third in
+    let one = passes (ltb 2097152 (length s)) Argument second v n e in
+    let two = passes (ltb 252 (greatest s)) Argument third v n (one .1) in
+    let three = passes (ltb room (length (packed s))) Room last v n (two .1) in
     let same = three .1 in (
       cc same,
       cc same,

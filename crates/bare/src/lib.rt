@@ -1,0 +1,99 @@
+// THE CALLS without a file: run read, run check, run write (document 01, "Calls"). Nothing here asks anything of its caller: what is out of range is
+// refused, by document 01's numbers. Below stand `runs`, which reads, and `packing`, which writes; above stand the calls for C and Rust.
+use runs::Scan;
+ghost use Rattle.bare.specs.Read.{ReadPromise, CheckPromise};
+ghost use Rattle.bare.specs.Write.{WritePromise};
+
+// Why run read refuses, a case for each of document 01's numbers: 12, 10, 11, 8.
+pub enum ReadRefusal {
+    V,
+    Argument,
+    Room,
+    Data,
+}
+
+// What run read answers: the levels are written, or a refusal.
+pub enum RunRead {
+    Read,
+    Refused(ReadRefusal),
+}
+
+// Run read: the n levels that the octets give under V, at the front of out.
+pub fn run_read(octets: &[u8], v: u8, n: usize, out: &mut [u8]) -> RunRead
+    ensures { λ r. ⌜ ReadPromise v n (now (octets .entry)) (now (out .entry)) r (now (out .exit)) ⌝ }
+{
+    if 253 < v {
+        return RunRead::Refused(ReadRefusal::V);
+    }
+    if 2097152 < n { // 10 comes before 11
+        return RunRead::Refused(ReadRefusal::Argument);
+    }
+    if out.len() < n {
+        return RunRead::Refused(ReadRefusal::Room);
+    }
+    let found = runs::scan_runs(octets, v, n);
+    let Scan::Exact = found else {
+        return RunRead::Refused(ReadRefusal::Data);
+    };
+    runs::fill(octets, v, 0, n, out);
+    RunRead::Read
+}
+
+// Why run check refuses: 12, 10, 8.
+pub enum CheckRefusal {
+    V,
+    Argument,
+    Data,
+}
+
+// What run check answers.
+pub enum RunCheck {
+    Gives,
+    Refused(CheckRefusal),
+}
+
+// Run check: whether octets give exactly n bins under V, as run read would find, with nothing lent.
+pub fn run_check(octets: &[u8], v: u8, n: usize) -> RunCheck
+    ensures { λ r. ⌜ CheckPromise v n (now (octets .entry)) r ⌝ }
+{
+    if 253 < v {
+        return RunCheck::Refused(CheckRefusal::V);
+    }
+    if 2097152 < n {
+        return RunCheck::Refused(CheckRefusal::Argument);
+    }
+    match runs::scan_runs(octets, v, n) {
+        Scan::Exact => RunCheck::Gives,
+        Scan::Off => RunCheck::Refused(CheckRefusal::Data),
+    }
+}
+
+// Why run write refuses, a case for each of document 01's numbers: 10 (too many levels, or a level over 252) and 11.
+pub enum WriteRefusal {
+    Argument,
+    Room,
+}
+
+// What run write answers: V and the number of octets, or a refusal.
+pub enum RunWrite {
+    Wrote { v: u8, len: usize },
+    Refused(WriteRefusal),
+}
+
+// Run write: the octets for the levels, at the front of out.
+pub fn run_write(levels: &[u8], out: &mut [u8]) -> RunWrite
+    ensures { λ r. ⌜ WritePromise (now (levels .entry)) (now (out .entry)) r (now (out .exit)) ⌝ }
+{
+    if 2097152 < levels.len() {
+        return RunWrite::Refused(WriteRefusal::Argument);
+    }
+    let v = packing::greatest_of(levels);
+    if 252 < v {
+        return RunWrite::Refused(WriteRefusal::Argument);
+    }
+    if !packing::has_room(levels, v, out.len()) {
+        return RunWrite::Refused(WriteRefusal::Room);
+    }
+    let len = packing::put_all(levels, v, out);
+    RunWrite::Wrote { v, len }
+}
