@@ -6,28 +6,23 @@ use native.Mathlib.Omega.{arith}
 use native.Mathlib.Numerals.{add-one}
 use lib.ListN.{length, length-append}
 use Rattle.lent.specs.Lent.{placed}
+use Rattle.kinds.specs.KindTable.{kindBy}
 use Rattle.stretches.specs.Stretch.{Entry}
 use Rattle.lent.specs.Put.{Put}
-use Rattle.lines.specs.Ascii.{ascii}
-use Rattle.lines.specs.Text.{decimal, newline, kindWord, entryLine, entryLines, headLine, refusedLine, endLine}
+use Rattle.lent.specs.Ascii.{ascii}
+use Rattle.lines.specs.Text.{decimal, newline, kindText, entryLine, entryLines, headLine, refusedLine, endLine}
 use Rattle.lines.specs.Words.{entryIn, entriesIn}
 use Rattle.lines.proofs.Decimal.{decimal-some}
 use Rattle.lent.proofs.Putting.{placed-append, then, named}
 
-pub kind-over : (k : ℕ) → (k ≡ 0 → ⊥) → (k ≡ 1 → ⊥) → ascii " over" ++ newline ≡ kindWord k ++ newline
-unfolding kindWord
-kind-over zero h g = absurd (h refl)
-kind-over (suc zero) h g = absurd (g refl)
-kind-over (suc (suc k)) h g = refl
-
 -- the pieces of an entry's line, where the numbers are those of the entry
 pub entry-put : (x : Entry) {d e f g h : List ℕ} {at a b c r p q m k : ℕ}
-    → Put d at (decimal p) e a → Put e a (ascii " " ++ decimal q) f b → Put f b (ascii " " ++ decimal m) g c → Put g c (kindWord k ++ newline) h r
+    → Put d at (decimal p) e a → Put e a (ascii " " ++ decimal q) f b → Put f b (ascii " " ++ decimal m) g c → Put g c (kindText (kindBy k) ++ newline) h r
     → (p ≡ x .ray) × (q ≡ x .first) × (m ≡ x .len) × (k ≡ x .kind)
     → Put d at (entryLine x) h r
 unfolding entryLine
 entry-put x one two three four is =
-    named (λ i. decimal (is .0 i) ++ ((ascii " " ++ decimal (is .1 i)) ++ ((ascii " " ++ decimal (is .2 i)) ++ (kindWord (is .3 i) ++ newline))))
+    named (λ i. decimal (is .0 i) ++ ((ascii " " ++ decimal (is .1 i)) ++ ((ascii " " ++ decimal (is .2 i)) ++ (kindText (kindBy (is .3 i)) ++ newline))))
     (then one (then two (then three four)))
 
 -- ---- line after line
@@ -63,7 +58,7 @@ lines-append (e ∷ a) b = ap (λ (l : List ℕ). entryLine e ++ l) (lines-appen
 pub entry-some : (e : Entry) → 0 < length (entryLine e)
 unfolding entryLine
 entry-some e =
-    let rest : List ℕ = (ascii " " ++ decimal (e .first)) ++ ((ascii " " ++ decimal (e .len)) ++ (kindWord (e .kind) ++ newline)) in
+    let rest : List ℕ = (ascii " " ++ decimal (e .first)) ++ ((ascii " " ++ decimal (e .len)) ++ (kindText (kindBy (e .kind)) ++ newline)) in
     omega (arith, decimal-some (e .ray), length-append (decimal (e .ray)) rest)
 
 pub lines-some : (l : List Entry) → length l ≤ length (entryLines l)

@@ -1,4 +1,3 @@
-pub mod Ascii
 pub mod Rooms
 pub mod Text
 pub mod Words

@@ -3,8 +3,11 @@ use Prim.Native.Nat.{ℕ, zero, suc, _+_, _/_, _%_}
 use mathlib.Core.Bool.{cond}
 use mathlib.Core.List.{List, [], _∷_, _++_}
 use lib.Dec.{ltb}
+use Rattle.kinds.specs.KindTable.{kindBy, kindWord}
+use Rattle.kinds.specs.declared.Numbered.{Numbered}
+use Rattle.kinds.specs.declared.Numbered.the-variants.{Is, NoKind}
 use Rattle.stretches.specs.Stretch.{Entry}
-use Rattle.lines.specs.Ascii.{ascii}
+use Rattle.lent.specs.Ascii.{ascii}
 
 -- the octet of a digit
 abbrev pub digit : ℕ → ℕ
@@ -19,18 +22,17 @@ spelled (suc f) n = cond (ltb n 10) (digit n ∷ []) (spelled f (n / 10) ++ (dig
 unfoldable pub decimal : ℕ → List ℕ
 decimal n = spelled (suc n) n
 
--- the word of a kind: 0 missing, 1 under the threshold, 2 at or over it
-unfoldable pub kindWord : ℕ → List ℕ
-kindWord zero = ascii " missing"
-kindWord (suc zero) = ascii " under"
-kindWord (suc (suc k)) = ascii " over"
+-- what stands for a kind in the line of an entry: its word. A number that is no kind's has none
+abbrev pub kindText : Numbered → List ℕ
+kindText (Is k) = ascii " " ++ kindWord k
+kindText NoKind = []
 
 abbrev pub newline : List ℕ
 newline = ascii "\n"
 
 -- `0 2 3 over`: ray, first bin, length, kind
 unfoldable pub entryLine : Entry → List ℕ
-entryLine e = decimal (e .ray) ++ ((ascii " " ++ decimal (e .first)) ++ ((ascii " " ++ decimal (e .len)) ++ (kindWord (e .kind) ++ newline)))
+entryLine e = decimal (e .ray) ++ ((ascii " " ++ decimal (e .first)) ++ ((ascii " " ++ decimal (e .len)) ++ (kindText (kindBy (e .kind)) ++ newline)))
 
 unfoldable pub entryLines : List Entry → List ℕ
 entryLines [] = []

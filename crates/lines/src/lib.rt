@@ -1,14 +1,16 @@
 // The text of the stretch list, line by line: document 01, "The lister". specs/Text.antt has each line as octets; each function here puts one at a
 // place of lent octets and answers the place past it. Below it stand `runs` (what stands at a place) and `stretches` (entries as words); above it
 // `listing`, the whole text of a file.
+use kinds::Numbered;
 ghost use mathlib.Core.Path.{_≡_};
 ghost use mathlib.Core.List.{_++_};
 ghost use Prim.Native.Nat.{_+_, _*_, _≤_};
 ghost use lib.ListN.{length};
+ghost use Rattle.kinds.specs.KindTable.{kindBy};
 ghost use Rattle.stretches.specs.Stretch.{perEntry};
 ghost use Rattle.lent.specs.Put.{Put};
 ghost use Rattle.lines.specs.Rooms.{entryRoom, lineRoom};
-ghost use Rattle.lines.specs.Text.{decimal, kindWord, newline, entryLine, entryLines, headLine, refusedLine, endLine};
+ghost use Rattle.lines.specs.Text.{decimal, kindText, newline, entryLine, entryLines, headLine, refusedLine, endLine};
 ghost use Rattle.lines.specs.Words.{entryIn, entriesIn};
 
 fn wide(x: u32) -> usize
@@ -41,17 +43,19 @@ fn put_named(out: &mut [u8], at: usize, name: &[u8], n: usize) -> usize
     put_decimal(out, a, n)
 }
 
-// The word of a kind, and the end of its line.
-fn put_kind(out: &mut [u8], at: usize, kind: u32) -> usize
+// The word of the kind that a number stands for, and the end of its line. A number that is no kind's has no word.
+fn put_kind(out: &mut [u8], at: usize, number: u32) -> usize
     requires { ⌜ at + 20 ≤ length (now out) ⌝ }
-    ensures { λ r. ⌜ Put (now (out .entry)) at (kindWord kind ++ newline) (now (out .exit)) r ⌝ }
+    ensures { λ r. ⌜ Put (now (out .entry)) at (kindText (kindBy number) ++ newline) (now (out .exit)) r ⌝ }
     ensures { λ r. ⌜ r ≤ at + 20 ⌝ }
 {
-    match kind {
-        0 => lent::put_octets(out, at, b" missing\n"),
-        1 => lent::put_octets(out, at, b" under\n"),
-        _ => lent::put_octets(out, at, b" over\n"),
-    }
+    let found = kinds::by_number(number);
+    let Numbered::Is(kind) = found else {
+        return lent::put_octets(out, at, b"\n");
+    };
+    let a = lent::put_octets(out, at, b" ");
+    let b = kinds::put_word(out, a, kind);
+    lent::put_octets(out, b, b"\n")
 }
 
 // The line of entry i of the words.
@@ -60,7 +64,7 @@ fn put_entry(out: &mut [u8], at: usize, words: &[u32], i: usize) -> usize
     ensures { λ r. ⌜ Put (now (out .entry)) at (entryLine (entryIn (now (words .entry)) i)) (now (out .exit)) r ⌝ }
     ensures { λ r. ⌜ r ≤ at + entryRoom ⌝ }
 {
-    let k = 4 * i;
+    let k = stretches::PER_ENTRY * i;
     let a = put_named(out, at, b"", wide(words[k]));
     let b = put_named(out, a, b" ", wide(words[k + 1]));
     let c = put_named(out, b, b" ", wide(words[k + 2]));

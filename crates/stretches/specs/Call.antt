@@ -9,6 +9,7 @@ use lib.ListN.{length, getD, take, drop}
 use lib.Seq.{sets}
 use lib.IntN.{ℤ, pos, negsuc}
 use Rattle.runs.specs.Run.{levels, gives}
+use Rattle.kinds.specs.KindTable.{kindNumber}
 use Rattle.values.specs.Reading.{readingOf, kindOf}
 use Rattle.values.specs.declared.Product.{Product}
 use Rattle.stretches.specs.Stretch.{Entry, Scale, perEntry, stretchesOf, past, wordsOf}
@@ -16,7 +17,7 @@ use Rattle.stretches.specs.declared.Listing.{Listing}
 
 -- the scale of a product and a threshold: "kind 0 missing, 1 value below T, 2 value at or above T"
 abbrev pub scaleOf : Product → ℤ → Scale
-scaleOf p t = record { kind = λ l. kindOf (readingOf p l) t }
+scaleOf p t = record { kind = λ l. kindNumber (kindOf (readingOf p l) t) }
 
 -- a scale by a table of kinds
 abbrev pub scaleBy : List ℕ → Scale

@@ -15,7 +15,7 @@ ghost use Rattle.stretches.specs.Stretch.{perEntry, toList};
 ghost use Rattle.stretches.specs.Call.{Part, scaleOf, scaleBy, listed, answerOf, outOf, rightT, rightPoint};
 
 // How many words an entry takes.
-pub const WORDS: usize = 4;
+pub const PER_ENTRY: usize = 4;
 
 // The house threshold, in hundredths.
 pub const HOUSE: i32 = 4000;
@@ -43,7 +43,7 @@ fn put(out: &mut [u32], count: usize, ray: usize, first: usize, len: usize, kind
     requires { ⌜ (ray ≤ 1024) × (first ≤ 2048) × (len ≤ 2048) × (perEntry * count + perEntry ≤ length (now out)) ⌝ }
     ensures { λ _. ⌜ now (out .exit) ≡ sets (now (out .entry)) (perEntry * count) (ray ∷ first ∷ len ∷ kind ∷ []) ⌝ }
 {
-    let i = WORDS * count;
+    let i = PER_ENTRY * count;
     out[i] = ray as u32;
     out[i + 1] = first as u32;
     out[i + 2] = len as u32;
@@ -68,7 +68,7 @@ fn list_by(
     ensures { λ r. ⌜ r ≡ answerOf nr (length (now (out .entry))) (listed (scaleBy (now (kinds .entry))) v (now (octets .entry)) nb nr from) ⌝ }
     ensures { λ _. ⌜ now (out .exit) ≡ outOf (now (out .entry)) (listed (scaleBy (now (kinds .entry))) v (now (octets .entry)) nb nr from) ⌝ }
 {
-    let cap = out.len() / WORDS;
+    let cap = out.len() / PER_ENTRY;
     let mut at: usize = 0;
     let mut ray: usize = 0;
     let mut bin: usize = 0;

@@ -7,6 +7,9 @@ use lib.Dec.{eqb}
 use lib.ListN.{getD}
 use lib.IntN.{ℤ}
 use lib.Signed.{ltZ}
+use Rattle.kinds.specs.KindTable.{kindNumber}
+use Rattle.kinds.specs.declared.Kind.{Kind}
+use Rattle.kinds.specs.declared.Kind.the-variants as K
 use Rattle.values.specs.Published.{published, levelCount}
 use Rattle.values.specs.declared.Product.{Product}
 use Rattle.values.specs.declared.Reading.{Reading}
@@ -27,11 +30,11 @@ unfoldable pub heldOf : Reading → ℤ → ℤ
 heldOf Missing x = x
 heldOf (Number z) x = z
 
--- the kind: 0 missing, 1 value below T, 2 value at or above T (document 01, "Calls", Stretches)
-unfoldable pub kindOf : Reading → ℤ → ℕ
-kindOf Missing t = 0
-kindOf (Number z) t = cond (ltZ z t) 1 2
+-- the kind against the threshold T: missing, under it, or at it and over (document 01, "Calls", Stretches)
+unfoldable pub kindOf : Reading → ℤ → Kind
+kindOf Missing t = K.Missing
+kindOf (Number z) t = cond (ltZ z t) K.Under K.Over
 
--- ks has the kind of each level at its place
+-- ks has the number of each level's kind at its place
 abbrev pub KindsBy : Product → ℤ → List ℕ → Type 0
-KindsBy p t ks = (l : ℕ) → l ≤ levelCount p → getD ks l 0 ≡ kindOf (readingOf p l) t
+KindsBy p t ks = (l : ℕ) → l ≤ levelCount p → getD ks l 0 ≡ kindNumber (kindOf (readingOf p l) t)

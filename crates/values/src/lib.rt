@@ -4,6 +4,7 @@
 //
 // A constant table that a loop indexes is laid out anew at each use. So whatever loops over levels is lent the table as a slice,
 // and one function on the product above it lends it.
+use kinds::Kind;
 ghost use mathlib.Core.Path.{_≡_};
 ghost use Prim.Native.Nat.{_≤_, _<_, _-_};
 ghost use lib.ListN.{length, replicate};
@@ -103,40 +104,33 @@ fn number_of(reading: Reading) -> i32
     }
 }
 
-// The kinds: no number, a value below the threshold, one at or above it.
-const MISSING: u32 = 0;
-
-const BELOW: u32 = 1;
-
-const REACHED: u32 = 2;
-
 // A reading's kind against a threshold.
-fn kind_of(reading: Reading, t: i32) -> u32
+fn kind_of(reading: Reading, t: i32) -> Kind
     ensures { λ k. ⌜ k ≡ kindOf reading t ⌝ }
 {
     match reading {
-        Reading::Missing => MISSING,
-        Reading::Number(z) => if z < t { BELOW } else { REACHED },
+        Reading::Missing => Kind::Missing,
+        Reading::Number(z) => if z < t { Kind::Under } else { Kind::Over },
     }
 }
 
-// The kind of each level, from the product's table.
+// The number of each level's kind, from the product's table.
 fn kinds_in(product: Product, table: &[i16], t: i32) -> [u32; 256]
     requires { ⌜ now table ≡ tableOf product ⌝ }
     ensures { λ r. ⌜ KindsBy product t r ⌝ }
 {
     let m = table.len();
-    let mut kinds = [0u32; 256];
+    let mut numbers = [0u32; 256];
     let mut level: usize = 0;
     while level <= m {
         let reading = reading_in(product, table, level as u8);
-        kinds[level] = kind_of(reading, t);
+        numbers[level] = kinds::number_of(kind_of(reading, t));
         level += 1;
     }
-    kinds
+    numbers
 }
 
-// The kind of each level, for whatever has many levels to tell the kind of.
+// The number of each level's kind, for whatever has many levels to tell the kind of.
 pub fn kinds_by(product: Product, t: i32) -> [u32; 256]
     ensures { λ r. ⌜ KindsBy product t r ⌝ }
 {

@@ -2,9 +2,11 @@
 use mathlib.Core.Path.{ap, _∙_}
 use Prim.Native.Nat.{_+_, _*_}
 use native.Mathlib.Omega.{arith}
+use lib.IntN.{ℤ}
 use mir.Syntax.{w32}
 use mir.ValLaws.{toZ-ofZ}
 use denote.Ref.{now}
+use Rattle.kinds.specs.KindTable.{kindNumber}
 use Rattle.values.specs.Reading.{readingOf, kindOf, KindsBy}
 use Rattle.stretches.proofs.Points.{point-small}
 use Rattle.stretches.proofs.Scales.{table-listed}
@@ -30,7 +32,7 @@ same-length c = search needs
 returns : tie.Need-returns
 returns c = let s = c .before .before .before .before .before .before .before .before in
     let a = s .args in
-    let k : KindsBy (a .product) (a .t) (c .before .before .before .before .before .kinds-by .result) = λ l h. c .before .before .before .before .before .kinds-by .ensures l h ∙ ap (kindOf (readingOf (a .product) l)) (toZ-ofZ w32 (a .t) (s .fits .t)) in
+    let k : KindsBy (a .product) (a .t) (c .before .before .before .before .before .kinds-by .result) = λ l h. c .before .before .before .before .before .kinds-by .ensures l h ∙ ap (λ (z : ℤ). kindNumber (kindOf (readingOf (a .product) l) z)) (toZ-ofZ w32 (a .t) (s .fits .t)) in
     rw (← table-listed (a .product) (a .t) (c .before .before .before .before .before .kinds-by .result) (a .v) (now (a .octets)) (a .nb) (a .nr) (a .ray * a .nb + a .bin) k (s .pre .1 .0)) (c .before .before .list-by .ensures)
 
 pub list-from-spec : {M : Type 1} → statement M

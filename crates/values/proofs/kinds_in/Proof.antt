@@ -5,8 +5,10 @@ use mathlib.Core.Path.{_≡_, refl, _∙_, ap}
 use Prim.Native.Nat.{ℕ, _+_, _-_, _≤_, _<_}
 use native.Mathlib.Nat.{not-suc-le-zero}
 use native.Mathlib.Omega.{arith}
+use Rattle.kinds.specs.KindTable.{kindNumber}
 use borrow.Author.Needs.{needs}
 use lib.ListN.{length, getD, length-set}
+use lib.IntN.{ℤ}
 use mir.Syntax.{w32}
 use mir.Val.{toZ, ofZ}
 use mir.Facts.{toZ-ofZ}
@@ -16,10 +18,10 @@ use Rattle.values.proofs.kinds_in.Statement.{statement}
 use Rattle.values.proofs.kinds_in.Tie as tie
 
 abbrev Inv-loop : tie.InvT-loop
-Inv-loop product table t m kinds₀ level₀ kinds level = (level ≤ m + 1) × (length kinds ≡ 256) × ((k : ℕ) → k < level → getD kinds k 0 ≡ kindOf (readingOf product k) (toZ w32 t))
+Inv-loop product table t m numbers₀ level₀ numbers level = (level ≤ m + 1) × (length numbers ≡ 256) × ((k : ℕ) → k < level → getD numbers k 0 ≡ kindNumber (kindOf (readingOf product k) (toZ w32 t)))
 
 abbrev μ-loop : tie.MeasureT-loop
-μ-loop product table t m kinds₀ level₀ kinds level = m + 1 - level
+μ-loop product table t m numbers₀ level₀ numbers level = m + 1 - level
 
 loop-holds : tie.Need-loop-holds Inv-loop μ-loop
 loop-holds c = (omega arith, refl, λ k h. absurd (not-suc-le-zero h))
@@ -34,32 +36,35 @@ reading-in-requires c κs = let s = c .before .before in let e = ap length (s .p
 kind-of-requires : tie.Need-kind-of-requires Inv-loop μ-loop
 kind-of-requires c κs = search needs
 
-mul-kinds : tie.Need-mul-kinds Inv-loop μ-loop
-mul-kinds c = let s = c .before .before .before .before in let e = ap length (s .pre) ∙ table-length (s .args .product) in omega (arith, count-le (s .args .product))
+number-of-requires : tie.Need-number-of-requires Inv-loop μ-loop
+number-of-requires c κs = search needs
 
-array-write-kinds : tie.Need-array-write-kinds Inv-loop μ-loop
-array-write-kinds c = let s = c .before .before .before .before in let e = ap length (s .pre) ∙ table-length (s .args .product) in omega (arith, count-le (s .args .product))
+mul-numbers : tie.Need-mul-numbers Inv-loop μ-loop
+mul-numbers c = let s : tie.Start Inv-loop μ-loop = search in let e = ap length (s .pre) ∙ table-length (s .args .product) in omega (arith, count-le (s .args .product))
+
+array-write-numbers : tie.Need-array-write-numbers Inv-loop μ-loop
+array-write-numbers c = let s : tie.Start Inv-loop μ-loop = search in let e = ap length (s .pre) ∙ table-length (s .args .product) in omega (arith, count-le (s .args .product))
 
 add-level : tie.Need-add-level Inv-loop μ-loop
-add-level c = let s = c .before .before .before .before in let e = ap length (s .pre) ∙ table-length (s .args .product) in omega (arith, count-le (s .args .product))
+add-level c = let s : tie.Start Inv-loop μ-loop = search in let e = ap length (s .pre) ∙ table-length (s .args .product) in omega (arith, count-le (s .args .product))
 
 loop-less : tie.Need-loop-less Inv-loop μ-loop
 loop-less c = omega arith
 
 loop-again : tie.Need-loop-again Inv-loop μ-loop
-loop-again c = let s = c .before .before .before .before in
-    let l = c .before .before .before .loop in
+loop-again c = let s : tie.Start Inv-loop μ-loop = search in
+    let l = c .before .before .before .before .loop in
     let e = ap length (s .pre) ∙ table-length (s .args .product) in (
       omega arith,
       simp length-set (l .inv .1),
-      filled-more (l .kinds) (λ k. kindOf (readingOf (s .args .product) k) (toZ w32 (ofZ w32 (s .args .t)))) (l .level) _ (omega (arith, count-le (s .args .product)))
-          (l .inv .2) (c .kind-of .ensures ∙ ap (λ (r : Reading). kindOf r (toZ w32 (ofZ w32 (s .args .t)))) (c .before .reading-in .ensures)),
+      filled-more (l .numbers) (λ k. kindNumber (kindOf (readingOf (s .args .product) k) (toZ w32 (ofZ w32 (s .args .t))))) (l .level) _ (omega (arith, count-le (s .args .product)))
+          (l .inv .2) (c .number-of .ensures ∙ ap kindNumber (c .before .kind-of .ensures ∙ ap (λ (r : Reading). kindOf r (toZ w32 (ofZ w32 (s .args .t)))) (c .before .before .reading-in .ensures))),
     )
 
 returns : tie.Need-returns Inv-loop μ-loop
 returns c = let s = c .before .before in
     let e = ap length (s .pre) ∙ table-length (s .args .product) in
-    λ l h. c .before .loop .inv .2 l (omega arith) ∙ ap (kindOf (readingOf (s .args .product) l)) (toZ-ofZ (s .fits .t))
+    λ l h. c .before .loop .inv .2 l (omega arith) ∙ ap (λ (z : ℤ). kindNumber (kindOf (readingOf (s .args .product) l) z)) (toZ-ofZ (s .fits .t))
 
 pub kinds-in-spec : {M : Type 1} → statement M
 kinds-in-spec =
@@ -71,8 +76,9 @@ kinds-in-spec =
     cast-reading-in
     reading-in-requires
     kind-of-requires
-    mul-kinds
-    array-write-kinds
+    number-of-requires
+    mul-numbers
+    array-write-numbers
     add-level
     loop-less
     loop-again
