@@ -10,7 +10,7 @@ use lib.Dec.{leb, ltb}
 use borrow.Author.Tests.{le-leb, lt-leb, lt-ltb, le-ltb, leb-true}
 use denote.Enum.Declared.{tagOf}
 use Rattle.runs.specs.declared.Step.{Step}
-use Rattle.runs.specs.declared.Step.the-variants.{Run, Above, Over, End}
+use Rattle.runs.specs.declared.Step.the-variants.{Run, Above, Longer, End}
 use Rattle.runs.proofs.Step.{the-type}
 use Rattle.runs.specs.Run.{levels, opens, runLen, runNext, digitSum, stepAt}
 use Rattle.octets.proofs.Orders.{by-order}
@@ -38,7 +38,7 @@ module _ (v nb : ℕ) (s : List ℕ) (p : RayRecord) where
   usable-left i l h = simp (lt-ltb _ _ i, le-leb _ _ l, lt-ltb _ _ h)
 
 -- ---- a record at the front, by the step there with its earlier bins for the cap
-told : (t : Bool) (o l n : ℕ) → Over ≡ cond t (Run o l n) Over → t ≡ false
+told : (t : Bool) (o l n : ℕ) → Longer ≡ cond t (Run o l n) Longer → t ≡ false
 told true o l n e = absurd (let w : _≡_ {A = ℕ} 0 1 = cc e in omega arith)
 told false o l n e = refl
 
@@ -46,7 +46,7 @@ module _ (v nb : ℕ) (s : List ℕ) (b : ℕ) where
   abbrev here : RayRecord
   here = record { offset = 0; before = b }
 
-  pub over-there : Over ≡ stepAt v b s 0 → (0 < length s) × (getD s 0 0 ≤ v) × (b < runLen v s 0)
+  pub over-there : Longer ≡ stepAt v b s 0 → (0 < length s) × (getD s 0 0 ≤ v) × (b < runLen v s 0)
   over-there e =
       by-order (length s) 0
       (λ h. absurd (let w : _≡_ {A = ℕ} 0 1 = cc (e ∙ sym (stepAt-end v b s 0 h)) in omega arith))
@@ -58,10 +58,10 @@ module _ (v nb : ℕ) (s : List ℕ) (b : ℕ) where
       (λ h. (i, l, h)))
       (λ h. absurd (let w : _≡_ {A = ℕ} 0 1 = cc (e ∙ sym (stepAt-above v b s 0 i h)) in omega arith)))
 
-  pub over-opens : Over ≡ stepAt v b s 0 → opens v s ≡ true
+  pub over-opens : Longer ≡ stepAt v b s 0 → opens v s ≡ true
   over-opens e = let t = over-there e in ap (opens v) (drop-here s 0 (t .0)) ∙ le-leb (getD s 0 0) v (t .1)
 
-  pub over-usable : Over ≡ stepAt v b s 0 → usable v nb s here ≡ leb (b + nb) (length (levels v s))
+  pub over-usable : Longer ≡ stepAt v b s 0 → usable v nb s here ≡ leb (b + nb) (length (levels v s))
   over-usable e = let t = over-there e in usable-left v nb s here (t .0) (t .1) (t .2)
 
   pub other-usable : (step : Step) → step ≡ stepAt v b s 0 → (tagOf the-type step ≡ 2 → ⊥) → usable v nb s here ≡ false
@@ -73,7 +73,7 @@ module _ (v nb : ℕ) (s : List ℕ) (b : ℕ) where
       (λ l.
       by-order (runLen v s 0) b
       (λ h. usable-reached v nb s here i l h)
-      (λ h. absurd (other (ap (tagOf the-type) (e ∙ sym (stepAt-run v b s 0 i l) ∙ ap (λ (t : Bool). cond t (Run (getD s 0 0) (runLen v s 0) (runNext v s 0)) Over) (lt-leb (runLen v s 0) b h))))))
+      (λ h. absurd (other (ap (tagOf the-type) (e ∙ sym (stepAt-run v b s 0 i l) ∙ ap (λ (t : Bool). cond t (Run (getD s 0 0) (runLen v s 0) (runNext v s 0)) Longer) (lt-leb (runLen v s 0) b h))))))
       (λ h. usable-above v nb s here i h))
 
 -- ---- a record at an offset is one at the front of the octets from there on

@@ -54,7 +54,7 @@ fn paint(octets: &[u8], v: u8, a: usize, b: usize, out: &mut [u8]) -> bool
         let level = octets[at];
         let run = runs::run_upto(octets, v, at, b - bins);
         let to = bins + run.len;
-        lent::stamp(out, runs::above(bins, a), runs::above(to, a), level);
+        lent::stamp(out, runs::excess(bins, a), runs::excess(to, a), level);
         bins = to;
         at = run.next;
     }
@@ -66,11 +66,7 @@ fn carry(row: &[u8], n: usize, out: &mut [u8])
     requires { ⌜ (n ≤ length (now row)) × (n ≤ length (now out)) ⌝ }
     ensures { λ _. ⌜ now (out .exit) ≡ front (take n (now (row .entry))) (now (out .entry)) ⌝ }
 {
-    let mut i: usize = 0;
-    while i < n {
-        out[i] = row[i];
-        i += 1;
-    }
+    lent::put_octets(out, 0, &row[..n]);
 }
 
 // The levels from a record at the octets' front, whose earlier bins are given. They are decoded once, into a row of our own: not until the last of them is
@@ -81,7 +77,7 @@ fn levels_in(octets: &[u8], v: u8, nb: usize, before: usize, out: &mut [u8]) -> 
     ensures { λ r. ⌜ now (out .exit) ≡ cond r (front (fromRecord v nb (now (octets .entry)) (record { offset = 0; before = before })) (now (out .entry))) (now (out .entry)) ⌝ }
 {
     let first = runs::run_at(octets, v, 0, before);
-    let Step::Over = first else {
+    let Step::Longer = first else {
         return false; // no level octet, or a run that the earlier bins reach the end of
     };
     let mut row = [0u8; 2048];
@@ -112,7 +108,7 @@ fn fits_in(octets: &[u8], v: u8, nb: usize, before: usize) -> bool
     ensures { λ r. ⌜ r ≡ usable v nb (now (octets .entry)) (record { offset = 0; before = before }) ⌝ }
 {
     let first = runs::run_at(octets, v, 0, before);
-    let Step::Over = first else {
+    let Step::Longer = first else {
         return false;
     };
     reaches(octets, v, before + nb)

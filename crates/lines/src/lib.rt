@@ -13,7 +13,7 @@ ghost use Rattle.lines.specs.Rooms.{entryRoom, lineRoom};
 ghost use Rattle.lines.specs.Text.{decimal, kindText, newline, entryLine, entryLines, headLine, refusedLine, endLine};
 ghost use Rattle.lines.specs.Words.{entryIn, entriesIn};
 
-fn wide(x: u32) -> usize
+fn as_usize(x: u32) -> usize
     ensures { λ r. ⌜ r ≡ x ⌝ }
 {
     x as usize
@@ -65,9 +65,9 @@ fn put_entry(out: &mut [u8], at: usize, words: &[u32], i: usize) -> usize
     ensures { λ r. ⌜ r ≤ at + entryRoom ⌝ }
 {
     let k = stretches::PER_ENTRY * i;
-    let a = put_named(out, at, b"", wide(words[k]));
-    let b = put_named(out, a, b" ", wide(words[k + 1]));
-    let c = put_named(out, b, b" ", wide(words[k + 2]));
+    let a = put_named(out, at, b"", as_usize(words[k]));
+    let b = put_named(out, a, b" ", as_usize(words[k + 1]));
+    let c = put_named(out, b, b" ", as_usize(words[k + 2]));
     put_kind(out, c, words[k + 3])
 }
 

@@ -8,15 +8,14 @@ use lib.ListN.{length, drop, getD, replicate, length-append, length-replicate, l
 use lib.Seq.{drop-drop, drop-at, getD-append-add, getD-drop}
 use lib.Dec.{leb, eqb}
 use borrow.Author.Tests.{le-leb, leb-true, eqb-true}
-use Rattle.runs.specs.Run.{digitSum, digitCount, levels, opens, gives, runLen, runNext, stepAt}
-use Rattle.runs.specs.Spot.{Holds}
-use Rattle.runs.specs.declared.Spot.{Spot}
+use Rattle.runs.specs.Run.{digitSum, digitCount, levels, opens, gives, runLen, runNext}
+use Rattle.runs.specs.Holding.{Holds}
+use Rattle.runs.specs.declared.HoldingRun.{HoldingRun}
 use Rattle.runs.specs.declared.Scan.the-variants.{Exact, Off}
-use Rattle.runs.specs.declared.Step.the-variants.{Run, Above, Over, End}
 use Rattle.octets.proofs.Orders.{by-order}
 use Rattle.lent.proofs.Lent.{drop-here}
 use Rattle.runs.proofs.Bins.{levels-nil, levels-open, levels-digit}
-use Rattle.runs.proofs.Steps.{stepAt-end, stepAt-above, stepAt-run, digitCount-nil, digitCount-open, digitCount-digit}
+use Rattle.runs.proofs.Steps.{digitCount-nil, digitCount-open, digitCount-digit}
 
 -- ---- every level is at most V
 pub levels-le : (v : ℕ) (s : List ℕ) (k : ℕ) → k < length (levels v s) → getD (levels v s) k 0 ≤ v
@@ -87,61 +86,6 @@ module _ (v : ℕ) (s : List ℕ) (at : ℕ) (opened : opens v (drop at s) ≡ t
   pub level-low : getD s at 0 ≤ v
   level-low = leb-true (getD s at 0) v (rw (drop-here s at level-inside) at opened)
 
-  -- and the step there is that run, or over the cap
-  pub step-there : (cap : ℕ) → stepAt v cap s at ≡ cond (leb (runLen v s at) cap) (Run (getD s at 0) (runLen v s at) (runNext v s at)) Over
-  step-there cap = sym (stepAt-run v cap s at level-inside level-low)
-
-  pub step-runs : (cap : ℕ) → length (levels v (drop at s)) ≤ cap → stepAt v cap s at ≡ Run (getD s at 0) (runLen v s at) (runNext v s at)
-  step-runs cap h =
-      let fits : runLen v s at ≤ cap = omega (arith, run-fits v s at level-inside level-low) in
-      step-there cap ∙ ap (λ (b : Bool). cond b (Run (getD s at 0) (runLen v s at) (runNext v s at)) Over) (le-leb (runLen v s at) cap fits)
-
--- ---- what a step that answers a run says of the levels
-pub record RunHere (v : ℕ) (s : List ℕ) (at cap level len next : ℕ) : Type 0 where
-  pub inside : at < length s
-  pub low : level ≤ v
-  pub some : 0 < len
-  pub within : len ≤ cap
-  pub on : at < next
-  pub next-le : next ≤ length s
-  pub opened : opens v (drop next s) ≡ true
-  pub row : levels v (drop at s) ≡ replicate len level ++ levels v (drop next s)
-
-is-run : (b : Bool) (o l n x y z : ℕ) → Run x y z ≡ cond b (Run o l n) Over → (b ≡ true) × (x ≡ o) × (y ≡ l) × (z ≡ n)
-is-run true o l n x y z e = (refl, cc e, cc e, cc e)
-is-run false o l n x y z e = absurd (let w : _≡_ {A = ℕ} 0 1 = cc e in omega arith)
-
-not-end : (x y z : ℕ) → Run x y z ≡ End → ⊥
-not-end x y z e = let w : _≡_ {A = ℕ} 0 1 = cc e in omega arith
-
-not-above : (x y z : ℕ) → Run x y z ≡ Above → ⊥
-not-above x y z e = let w : _≡_ {A = ℕ} 0 1 = cc e in omega arith
-
-module _ (v cap : ℕ) (s : List ℕ) (at level len next : ℕ) (e : Run level len next ≡ stepAt v cap s at) where
-  found : (inside : at < length s) (low : getD s at 0 ≤ v) → RunHere v s at cap level len next
-  found inside low =
-      let r = is-run (leb (runLen v s at) cap) (getD s at 0) (runLen v s at) (runNext v s at) level len next (e ∙ sym (stepAt-run v cap s at inside low)) in
-      let fits = leb-true (runLen v s at) cap (r .0) in
-      record {
-        inside = inside;
-        low = omega (arith, r .1);
-        some = omega (arith, r .2);
-        within = omega (arith, r .2);
-        on = omega (arith, r .3);
-        next-le = omega (arith, r .3, run-next-le v s at inside low);
-        opened = ap (λ (n : ℕ). opens v (drop n s)) (r .3) ∙ run-opens v s at inside low;
-        row = run-levels v s at inside low ∙ (λ i. replicate (sym (r .2) i) (sym (r .1) i) ++ levels v (drop (sym (r .3) i) s));
-      }
-
-  pub step-run : RunHere v s at cap level len next
-  step-run =
-      by-order (length s) at
-      (λ h. absurd (not-end level len next (e ∙ sym (stepAt-end v cap s at h))))
-      (λ inside.
-      by-order (getD s at 0) v
-      (λ low. found inside low)
-      (λ high. absurd (not-above level len next (e ∙ sym (stepAt-above v cap s at inside high)))))
-
 -- ---- where reading stands: `bins` of the levels were read, and those of the octets from `at` on come after them
 pub record Stands (v : ℕ) (s : List ℕ) (at bins : ℕ) : Type 0 where
   pub within : bins ≤ length (levels v s)
@@ -151,8 +95,8 @@ pub record Stands (v : ℕ) (s : List ℕ) (at bins : ℕ) : Type 0 where
 pub stands-first : (v : ℕ) (s : List ℕ) → opens v s ≡ true → Stands v s 0 0
 stands-first v s o = record { within = omega arith; rest = refl; opened = o }
 
-pub stands-spot : (v : ℕ) (s : List ℕ) (a : ℕ) (spot : Spot) → a < length (levels v s) → Holds v s a spot → Stands v s (spot .at) (spot .bins)
-stands-spot v s a spot inside h = record { within = omega (arith, h .before); rest = h .rest; opened = h .opened }
+pub stands-holding : (v : ℕ) (s : List ℕ) (a : ℕ) (holding : HoldingRun) → a < length (levels v s) → Holds v s a holding → Stands v s (holding .at) (holding .bins)
+stands-holding v s a holding inside h = record { within = omega (arith, h .before); rest = h .rest; opened = h .opened }
 
 -- the run there, as long as there are levels to come
 module _ (v : ℕ) (s : List ℕ) (at bins : ℕ) (k : Stands v s at bins) (more : bins < length (levels v s)) where

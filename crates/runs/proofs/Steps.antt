@@ -12,7 +12,7 @@ use lib.Dec.{leb, ltb}
 use borrow.Author.Tests.{le-leb, lt-leb, lt-ltb, le-ltb}
 use Rattle.runs.specs.Run.{base, digitSum, digitCount, runLen, runNext, stepAt}
 use Rattle.runs.specs.declared.Step.{Step}
-use Rattle.runs.specs.declared.Step.the-variants.{Run, Above, Over, End}
+use Rattle.runs.specs.declared.Step.the-variants.{Run, Above, Longer, End}
 use Rattle.octets.proofs.Orders.{by-order}
 use Rattle.lent.proofs.Lent.{drop-here}
 use Rattle.runs.proofs.Bins.{Weighs, weighs-same, next-weighs, same-digit}
@@ -59,7 +59,7 @@ unfoldable pub goOn : ℕ → ℕ → ℕ → ℕ → ℕ → ℕ → List ℕ �
 goOn v cap l len w i [] = Run l len i
 goOn v cap l len w i (o ∷ s) =
     cond (leb o v) (Run l len i)
-    (cond (ltb cap (len + (o - v - 1) * w)) Over (goOn v cap l (len + (o - v - 1) * w) (cond (leb w cap) (w * base v) w) (i + 1) s))
+    (cond (ltb cap (len + (o - v - 1) * w)) Longer (goOn v cap l (len + (o - v - 1) * w) (cond (leb w cap) (w * base v) w) (i + 1) s))
 
 pub goOn-nil : (v cap l len w i : ℕ) → goOn v cap l len w i [] ≡ Run l len i
 unfolding goOn
@@ -70,7 +70,7 @@ module _ (v cap l len w i o : ℕ) (s : List ℕ) where
   unfolding goOn
   goOn-stop h = simp (le-leb o v h)
 
-  pub goOn-over : v < o → cap < len + (o - v - 1) * w → goOn v cap l len w i (o ∷ s) ≡ Over
+  pub goOn-over : v < o → cap < len + (o - v - 1) * w → goOn v cap l len w i (o ∷ s) ≡ Longer
   unfolding goOn
   goOn-over h g = simp (lt-leb o v h, lt-ltb cap (len + (o - v - 1) * w) g)
 
@@ -80,12 +80,12 @@ module _ (v cap l len w i o : ℕ) (s : List ℕ) where
 
 -- what comes of it, by a length and a place
 abbrev pub ends : ℕ → ℕ → ℕ → ℕ → Step
-ends cap l len i = cond (leb len cap) (Run l len i) Over
+ends cap l len i = cond (leb len cap) (Run l len i) Longer
 
 ends-fit : (cap l len i : ℕ) → len ≤ cap → Run l len i ≡ ends cap l len i
 ends-fit cap l len i h = simp (le-leb len cap h)
 
-ends-over : (cap l len i : ℕ) → cap < len → Over ≡ ends cap l len i
+ends-over : (cap l len i : ℕ) → cap < len → Longer ≡ ends cap l len i
 ends-over cap l len i h = simp (lt-leb len cap h)
 
 ends-eq : (cap l : ℕ) {a b i j : ℕ} → a ≡ b → i ≡ j → ends cap l a i ≡ ends cap l b j
@@ -109,7 +109,7 @@ module _ (v cap : ℕ) (low : v ≤ 253) (l : ℕ) where
   pub run-start : (at : ℕ) (s : List ℕ) → 1 ≤ cap → goOn v cap l 1 1 (at + 1) (drop (at + 1) s) ≡ ends cap l (runLen v s at) (runNext v s at)
   run-start at s h = goOn-right (drop (at + 1) s) 1 1 1 (at + 1) h (weighs-same cap 1) ∙ ends-eq cap l (omega (arith, digitSum-is v (drop (at + 1) s))) refl
 
-pub run-zero : (v cap l at : ℕ) (s : List ℕ) → cap < 1 → Over ≡ ends cap l (runLen v s at) (runNext v s at)
+pub run-zero : (v cap l at : ℕ) (s : List ℕ) → cap < 1 → Longer ≡ ends cap l (runLen v s at) (runNext v s at)
 run-zero v cap l at s h = ends-over cap l (runLen v s at) (runNext v s at) (omega arith)
 
 module _ (v cap : ℕ) (s : List ℕ) (at : ℕ) where
@@ -130,7 +130,7 @@ module _ (v cap l len w i : ℕ) (octets : List ℕ) (X : Step) where
   pub go-digit : i < length octets → v < getD octets i 0 → len + (getD octets i 0 - v - 1) * w ≤ cap → goOn v cap l len w i (drop i octets) ≡ X → goOn v cap l (len + (getD octets i 0 - v - 1) * w) (cond (leb w cap) (w * base v) w) (i + 1) (drop (i + 1) octets) ≡ X
   go-digit hi ho hb e = sym (goOn-digit v cap l len w i _ _ ho hb) ∙ (rw (drop-here octets i hi) at e)
 
-  pub go-over : i < length octets → v < getD octets i 0 → cap < len + (getD octets i 0 - v - 1) * w → goOn v cap l len w i (drop i octets) ≡ X → Over ≡ X
+  pub go-over : i < length octets → v < getD octets i 0 → cap < len + (getD octets i 0 - v - 1) * w → goOn v cap l len w i (drop i octets) ≡ X → Longer ≡ X
   go-over hi ho hb e = sym (goOn-over v cap l len w i _ _ ho hb) ∙ (rw (drop-here octets i hi) at e)
 
   pub go-stop : i < length octets → getD octets i 0 ≤ v → goOn v cap l len w i (drop i octets) ≡ X → Run l len i ≡ X

@@ -9,7 +9,7 @@ use lib.Dec.{leb}
 use borrow.Author.Tests.{le-leb, lt-leb, leb-true}
 use denote.Enum.Declared.{tagOf}
 use Rattle.runs.specs.declared.Step.{Step}
-use Rattle.runs.specs.declared.Step.the-variants.{Run, Above, Over, End}
+use Rattle.runs.specs.declared.Step.the-variants.{Run, Above, Longer, End}
 use Rattle.runs.proofs.Step.{the-type}
 use Rattle.runs.specs.Run.{levels, opens, runLen, runNext, stepAt}
 use Rattle.octets.proofs.Orders.{by-order}
@@ -18,7 +18,7 @@ use Rattle.runs.proofs.Steps.{stepAt-run}
 use Rattle.runs.proofs.Here.{Stands, here-fits, here-next, levels-past, run-fits}
 
 -- ---- what the step answers where a level octet stands
-told : (t : Bool) (o l n x y z : ℕ) → Run x y z ≡ cond t (Run o l n) Over → (t ≡ true) × (y ≡ l) × (z ≡ n)
+told : (t : Bool) (o l n x y z : ℕ) → Run x y z ≡ cond t (Run o l n) Longer → (t ≡ true) × (y ≡ l) × (z ≡ n)
 told true o l n x y z e = (refl, cc e, cc e)
 told false o l n x y z e = absurd (let w : _≡_ {A = ℕ} 0 1 = cc e in omega arith)
 
@@ -37,7 +37,7 @@ module _ (v cap : ℕ) (s : List ℕ) (at : ℕ) (inside : at < length s) (low :
   pub cut-over : (step : Step) → step ≡ stepAt v cap s at → (tagOf the-type step ≡ 0 → ⊥) → cap < runLen v s at
   cut-over step e other =
       by-order (runLen v s at) cap
-      (λ h. absurd (other (ap (tagOf the-type) (e ∙ sym (stepAt-run v cap s at inside low) ∙ ap (λ (b : Bool). cond b (Run (getD s at 0) (runLen v s at) (runNext v s at)) Over) (le-leb (runLen v s at) cap h)))))
+      (λ h. absurd (other (ap (tagOf the-type) (e ∙ sym (stepAt-run v cap s at inside low) ∙ ap (λ (b : Bool). cond b (Run (getD s at 0) (runLen v s at) (runNext v s at)) Longer) (le-leb (runLen v s at) cap h)))))
       (λ h. h)
 
 -- ---- the walk

@@ -7,7 +7,7 @@ use lib.Dec.{leb, ltb, eqb}
 use Rattle.runs.specs.declared.Scan.{Scan}
 use Rattle.runs.specs.declared.Scan.the-variants.{Exact, Off}
 use Rattle.runs.specs.declared.Step.{Step}
-use Rattle.runs.specs.declared.Step.the-variants.{Run, Above, Over, End}
+use Rattle.runs.specs.declared.Step.the-variants.{Run, Above, Longer, End}
 
 -- "Let B = 255 - V"
 abbrev pub base : ℕ → ℕ
@@ -53,6 +53,6 @@ unfoldable pub stepAt : ℕ → ℕ → List ℕ → ℕ → Step
 stepAt v cap s at =
     cond (ltb at (length s))
     (cond (leb (getD s at 0) v)
-    (cond (leb (runLen v s at) cap) (Run (getD s at 0) (runLen v s at) (runNext v s at)) Over)
+    (cond (leb (runLen v s at) cap) (Run (getD s at 0) (runLen v s at) (runNext v s at)) Longer)
     Above)
     End

@@ -8,7 +8,7 @@ ghost use Prim.Native.Nat.{_≤_, _<_, _-_, min};
 ghost use lib.ListN.{length, replicate, getD};
 ghost use Rattle.runs.specs.Run.{levels, opens, scanned, runLen, runNext, stepAt};
 ghost use Rattle.lent.specs.Lent.{front, between};
-ghost use Rattle.runs.specs.Spot.{Holds};
+ghost use Rattle.runs.specs.Holding.{Holds};
 
 // Whether octets give exactly the bins wanted.
 pub enum Scan {
@@ -73,7 +73,7 @@ pub fn scan_runs(octets: &[u8], v: u8, n: usize) -> Scan
 pub enum Step {
     Run { level: u8, len: usize, next: usize },
     Above,
-    Over,
+    Longer,
     End,
 }
 
@@ -90,7 +90,7 @@ pub fn run_at(octets: &[u8], v: u8, at: usize, cap: usize) -> Step
         return Step::Above;
     }
     if cap < 1 {
-        return Step::Over;
+        return Step::Longer;
     }
     let base = 255 - v as usize;
     let mut i: usize = at + 1;
@@ -103,7 +103,7 @@ pub fn run_at(octets: &[u8], v: u8, at: usize, cap: usize) -> Step
         }
         len += (o - v - 1) as usize * weight;
         if cap < len {
-            return Step::Over;
+            return Step::Longer;
         }
         i += 1;
         if weight <= cap {
@@ -118,13 +118,13 @@ pub fn run_at(octets: &[u8], v: u8, at: usize, cap: usize) -> Step
 }
 
 // A run that is known to stand at a place: its length, and the place past its digits.
-pub struct Known {
+pub struct RunSpan {
     pub len: usize,
     pub next: usize,
 }
 
 // The run at a place, where it is known to be there and to be no longer than the bins of the largest cut: what a scan has shown is not tested again.
-pub fn known_run(octets: &[u8], v: u8, at: usize) -> Known
+pub fn known_run(octets: &[u8], v: u8, at: usize) -> RunSpan
     requires { ⌜ (v ≤ 253) × (at < length (now octets)) × (runLen v (now octets) at ≤ 2097152) ⌝ }
     ensures { λ r. ⌜ (r .len ≡ runLen v (now (octets .entry)) at) × (r .next ≡ runNext v (now (octets .entry)) at) ⌝ }
 {
@@ -143,11 +143,11 @@ pub fn known_run(octets: &[u8], v: u8, at: usize) -> Known
             weight *= base;
         }
     }
-    Known { len, next: i }
+    RunSpan { len, next: i }
 }
 
 // The run at a level octet, cut off at cap bins: for octets that no scan has looked at, whose runs may be of any length.
-pub fn run_upto(octets: &[u8], v: u8, at: usize, cap: usize) -> Known
+pub fn run_upto(octets: &[u8], v: u8, at: usize, cap: usize) -> RunSpan
     requires { ⌜ (v ≤ 253) × (cap ≤ 1099511627775) × (at < length (now octets)) × (getD (now octets) at 0 ≤ v) ⌝ }
     ensures { λ r. ⌜ (r .len ≡ min (runLen v (now (octets .entry)) at) cap) × (runLen v (now (octets .entry)) at ≤ cap → r .next ≡ runNext v (now (octets .entry)) at) ⌝ }
 {
@@ -157,13 +157,13 @@ pub fn run_upto(octets: &[u8], v: u8, at: usize, cap: usize) -> Known
             level: _,
             len,
             next,
-        } => Known { len, next },
-        Step::Above | Step::Over | Step::End => Known { len: cap, next: at },
+        } => RunSpan { len, next },
+        Step::Above | Step::Longer | Step::End => RunSpan { len: cap, next: at },
     }
 }
 
 // What x has above y.
-pub fn above(x: usize, y: usize) -> usize
+pub fn excess(x: usize, y: usize) -> usize
     ensures { λ r. ⌜ r ≡ x - y ⌝ }
 {
     if y <= x { x - y } else { 0 }
@@ -176,13 +176,13 @@ pub fn lesser(x: usize, y: usize) -> usize
 }
 
 // Where a bin stands: the place of the level octet whose run holds it, and how many bins come before that run.
-pub struct Spot {
+pub struct HoldingRun {
     pub at: usize,
     pub bins: usize,
 }
 
 // The spot of bin a: the runs before it are passed over, and nothing is stored.
-pub fn seek(octets: &[u8], v: u8, a: usize) -> Spot
+pub fn seek(octets: &[u8], v: u8, a: usize) -> HoldingRun
     requires { ⌜ (v ≤ 253) × (opens v (now octets) ≡ true) × (length (levels v (now octets)) ≤ 2097152) ⌝ }
     requires { ⌜ a < length (levels v (now octets)) ⌝ }
     ensures { λ r. ⌜ Holds v (now (octets .entry)) a r ⌝ }
@@ -193,7 +193,7 @@ pub fn seek(octets: &[u8], v: u8, a: usize) -> Spot
         let run = known_run(octets, v, at);
         let end = bins + run.len;
         if a < end {
-            return Spot { at, bins };
+            return HoldingRun { at, bins };
         }
         bins = end;
         at = run.next;
@@ -206,13 +206,13 @@ pub fn level_at(octets: &[u8], v: u8, a: usize) -> u8
     requires { ⌜ a < length (levels v (now octets)) ⌝ }
     ensures { λ r. ⌜ r ≡ getD (levels v (now (octets .entry))) a 0 ⌝ }
 {
-    let spot = seek(octets, v, a);
-    let at = spot.at;
+    let holding = seek(octets, v, a);
+    let at = holding.at;
     octets[at]
 }
 
 // The bins a up to b of what the octets give, at the front of out. Octets past the run that reaches b are not looked at.
-pub fn fill(octets: &[u8], v: u8, a: usize, b: usize, out: &mut [u8])
+pub fn levels_into(octets: &[u8], v: u8, a: usize, b: usize, out: &mut [u8])
     requires { ⌜ (v ≤ 253) × (opens v (now octets) ≡ true) × (length (levels v (now octets)) ≤ 2097152) ⌝ }
     requires { ⌜ (a ≤ b) × (b ≤ length (levels v (now octets))) × (b - a ≤ length (now out)) ⌝ }
     ensures { λ _. ⌜ now (out .exit) ≡ front (between a b (levels v (now (octets .entry)))) (now (out .entry)) ⌝ }
@@ -220,14 +220,14 @@ pub fn fill(octets: &[u8], v: u8, a: usize, b: usize, out: &mut [u8])
     if b <= a {
         return;
     }
-    let spot = seek(octets, v, a);
-    let mut at = spot.at;
-    let mut bins = spot.bins;
+    let holding = seek(octets, v, a);
+    let mut at = holding.at;
+    let mut bins = holding.bins;
     while bins < b {
         let level = octets[at];
         let run = known_run(octets, v, at);
         let end = bins + run.len;
-        lent::stamp(out, above(bins, a), above(lesser(end, b), a), level);
+        lent::stamp(out, excess(bins, a), excess(lesser(end, b), a), level);
         bins = end;
         at = run.next;
     }

@@ -13,7 +13,7 @@ use Rattle.fraction.specs.Near.{negative, NearZ}
 use Rattle.fraction.proofs.Quotient.{ofInt-val}
 use Rattle.fraction.proofs.Steps.{over, zero-of-near, div-near}
 use Rattle.fraction.proofs.Sum.{size-le, sum-near}
-use Rattle.scaled.specs.Scaled.{negativeSingle, sizeOf, single149, finiteSingle, top, bottom, Right, scaledValue}
+use Rattle.scaled.specs.Scaled.{negativeSingle, singleSize, singleUnits, finiteSingle, exactNumerator, exactDenominator, Right, scaledValue}
 use Rattle.scaled.proofs.Single.{single-value, size-most}
 
 -- Z × 2^E and 10^D are small: for both widths, as Z is at most 16 bits
@@ -28,36 +28,36 @@ ten-most d h = pow-le-pow-right {n = 10} (lit< tt) h
 
 module _ (b z e : ℕ) (finite : finiteSingle b ≡ true) (Z : z < 65536) (E : e ≤ 2) where
   -- R + Z × 2^E, in size
-  size : sizeOf b + z * 2 ^ e * 2 ^ 149 ≤ 2 ^ 278
+  size : singleSize b + z * 2 ^ e * 2 ^ 149 ≤ 2 ^ 278
   size = le-trans (both (size-most b finite) (mul-le-mul-right (2 ^ 149) (shifted z e Z E))) (lit≤ tt)
     where
       both : {x y u w : ℕ} → x ≤ u → y ≤ w → x + y ≤ u + w
       both h k = omega arith
 
-  sum-right : NearZ 53 (add binary64 (ofBits binary32 b) (ofInt binary64 (pos (z * 2 ^ e)))) (top b z e) (2 ^ 149)
-  unfolding single149 top
+  sum-right : NearZ 53 (add binary64 (ofBits binary32 b) (ofInt binary64 (pos (z * 2 ^ e)))) (exactNumerator b z e) (2 ^ 149)
+  unfolding singleUnits exactNumerator
   sum-right =
       let n = z * 2 ^ e in
-      sum-near binary64 (ofBits binary32 b) (ofInt binary64 (pos n)) (negativeSingle b) (sizeOf b) (n * 2 ^ 149) (2 ^ 149) (pow-pos 149) (lit≤ tt)
+      sum-near binary64 (ofBits binary32 b) (ofInt binary64 (pos n)) (negativeSingle b) (singleSize b) (n * 2 ^ 149) (2 ^ 149) (pow-pos 149) (lit≤ tt)
       (lt-of-le-of-lt size (lit< tt))
       (single-value b finite)
       (over (ofInt binary64 (pos n)) false n (2 ^ 149) (ofInt-val binary64 (pos n) (le-trans (shifted z e Z E) (lit≤ tt))))
 
-  top-size : natAbs (top b z e) ≤ 2 ^ 278
-  unfolding single149 top
-  top-size = le-trans (size-le (negativeSingle b) (sizeOf b) (z * 2 ^ e * 2 ^ 149)) size
+  top-size : natAbs (exactNumerator b z e) ≤ 2 ^ 278
+  unfolding singleUnits exactNumerator
+  top-size = le-trans (size-le (negativeSingle b) (singleSize b) (z * 2 ^ e * 2 ^ 149)) size
 
-  near : (d : ℕ) → d ≤ 4 → NearZ 51 (scaledValue b z e d) (top b z e) (bottom d)
-  unfolding scaledValue bottom
+  near : (d : ℕ) → d ≤ 4 → NearZ 51 (scaledValue b z e d) (exactNumerator b z e) (exactDenominator d)
+  unfolding scaledValue exactDenominator
   near d D =
-      div-near binary64 (negative (top b z e)) (add binary64 (ofBits binary32 b) (ofInt binary64 (pos (z * 2 ^ e)))) (natAbs (top b z e)) (2 ^ 149) (10 ^ d) (pow-pos 149) (ten-pos d)
+      div-near binary64 (negative (exactNumerator b z e)) (add binary64 (ofBits binary32 b) (ofInt binary64 (pos (z * 2 ^ e)))) (natAbs (exactNumerator b z e)) (2 ^ 149) (10 ^ d) (pow-pos 149) (ten-pos d)
       (le-trans (ten-most d D) (lit≤ tt))
       (le-trans (mul-le-mul-left (2 ^ 52) (mul-le-mul-left (2 * 2 ^ 149) (ten-most d D))) (lit≤ tt))
       (lt-of-le-of-lt (mul-le-mul-left 2 top-size) (lit< tt))
       sum-right
 
-bottom-pos : (d : ℕ) → 0 < bottom d
-unfolding bottom
+bottom-pos : (d : ℕ) → 0 < exactDenominator d
+unfolding exactDenominator
 bottom-pos d = mul-pos (pow-pos 149) (ten-pos d)
 
 held : (b z e d : ℕ) → T (fits binary64 (scaledValue b z e d))
@@ -68,5 +68,5 @@ held b z e d = div-fits binary64 (add binary64 (ofBits binary32 b) (ofInt binary
 pub scaled-right : (b z e d : ℕ) → finiteSingle b ≡ true → z < 65536 → e ≤ 2 → d ≤ 4 → Right (scaledValue b z e d) b z e d
 scaled-right b z e d finite Z E D =
     let y = scaledValue b z e d in
-    let n : NearZ 51 y (top b z e) (bottom d) = near b z e finite Z E d D in
-    (n, λ none. zero-of-near binary64 51 false y (bottom d) (bottom-pos d) (held b z e d) (subst (λ (t : ℤ). NearZ 51 y t (bottom d)) none n))
+    let n : NearZ 51 y (exactNumerator b z e) (exactDenominator d) = near b z e finite Z E d D in
+    (n, λ none. zero-of-near binary64 51 false y (exactDenominator d) (bottom-pos d) (held b z e d) (subst (λ (t : ℤ). NearZ 51 y t (exactDenominator d)) none n))

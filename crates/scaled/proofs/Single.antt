@@ -11,7 +11,7 @@ use lib.Ieee.{Float, nan, inf, fin, binary32, binary64, ofBits, ofFields, odd, f
 use lib.Ieee.Fits.{and-i, fits-widens}
 use lib.Ieee.Bits.{nanBits-is, ofBits-fits}
 use lib.Ieee.Exact.{HasValue, odd-sign}
-use Rattle.scaled.specs.Scaled.{negativeSingle, exponentOf, mantissaOf, sizeOf, finiteSingle}
+use Rattle.scaled.specs.Scaled.{negativeSingle, exponentOf, mantissaOf, singleSize, finiteSingle}
 
 -- ---- the value, from the fields: sign s, exponent x, mantissa m
 fields-value : (s : Bool) (x m : ℕ) → eqb x 255 ≡ false → HasValue (ofFields binary32 s x m) s (cond (eqb x 0) m ((8388608 + m) * 2 ^ (x - 1))) (2 ^ 149)
@@ -23,13 +23,13 @@ fields-value s (suc x) m h =
     before : (k : ℕ) → k ≡ suc k - 1
     before k = omega arith
 
-pub single-value : (b : ℕ) → finiteSingle b ≡ true → HasValue (ofBits binary32 b) (negativeSingle b) (sizeOf b) (2 ^ 149)
-unfolding ofBits sizeOf
+pub single-value : (b : ℕ) → finiteSingle b ≡ true → HasValue (ofBits binary32 b) (negativeSingle b) (singleSize b) (2 ^ 149)
+unfolding ofBits singleSize
 single-value b h = fields-value (negativeSingle b) (exponentOf b) (mantissaOf b) (not-true _ h)
 
 -- ---- its size
-pub size-most : (b : ℕ) → finiteSingle b ≡ true → sizeOf b ≤ 2 ^ 277
-unfolding sizeOf
+pub size-most : (b : ℕ) → finiteSingle b ≡ true → singleSize b ≤ 2 ^ 277
+unfolding singleSize
 size-most b h = go (eqb (exponentOf b) 0)
   where
     m : mantissaOf b < 8388608
@@ -56,7 +56,7 @@ is-number (inf t) s a c v = absurd v
 is-number (fin t m e) s a c v = tt
 
 single-number : (b : ℕ) → finiteSingle b ≡ true → T (not (isNan (ofBits binary32 b)))
-single-number b h = is-number (ofBits binary32 b) (negativeSingle b) (sizeOf b) (2 ^ 149) (single-value b h)
+single-number b h = is-number (ofBits binary32 b) (negativeSingle b) (singleSize b) (2 ^ 149) (single-value b h)
 
 pub bits-number : (b : ℕ) → finiteSingle b ≡ true → T (not (nanBits binary32 b))
 bits-number b h = subst (λ (t : Bool). T (not t)) (sym (nanBits-is binary32 b)) (single-number b h)

@@ -23,26 +23,26 @@ mantissaOf b = b % 8388608
 -- e is 0: (-1)^s × m × 2^-149
 -- e is 1 to 254: (-1)^s × (1.0 + m × 2^-23) × 2^(e-127), which is (-1)^s × (2^23 + m) × 2^(e-1) × 2^-149
 -- so R × 2^149 is a whole number: its size, and the number
-unfoldable pub sizeOf : ℕ → ℕ
-sizeOf b = cond (eqb (exponentOf b) 0) (mantissaOf b) ((8388608 + mantissaOf b) * 2 ^ (exponentOf b - 1))
+unfoldable pub singleSize : ℕ → ℕ
+singleSize b = cond (eqb (exponentOf b) 0) (mantissaOf b) ((8388608 + mantissaOf b) * 2 ^ (exponentOf b - 1))
 
-unfoldable pub single149 : ℕ → ℤ
-single149 b = cond (negativeSingle b) (negℤ (pos (sizeOf b))) (pos (sizeOf b))
+unfoldable pub singleUnits : ℕ → ℤ
+singleUnits b = cond (negativeSingle b) (negℤ (pos (singleSize b))) (pos (singleSize b))
 
 -- e is 255: infinite, or no number
 abbrev pub finiteSingle : ℕ → Bool
 finiteSingle b = not (eqb (exponentOf b) 255)
 
 -- Y × 10^D = R + Z × 2^E: Y is top / bottom, both taken 2^149 times
-unfoldable pub top : ℕ → ℕ → ℕ → ℤ
-top b z e = single149 b +ℤ pos (z * 2 ^ e * 2 ^ 149)
+unfoldable pub exactNumerator : ℕ → ℕ → ℕ → ℤ
+exactNumerator b z e = singleUnits b +ℤ pos (z * 2 ^ e * 2 ^ 149)
 
-unfoldable pub bottom : ℕ → ℕ
-bottom d = 2 ^ 149 * 10 ^ d
+unfoldable pub exactDenominator : ℕ → ℕ
+exactDenominator d = 2 ^ 149 * 10 ^ d
 
 -- y is within |Y| / 2^51 of Y, and zero where Y is 0
 abbrev pub Right : Float → ℕ → ℕ → ℕ → ℕ → Type 0
-Right y b z e d = NearZ 51 y (top b z e) (bottom d) × (top b z e ≡ pos 0 → y ≡ fin false 0 (pos 0))
+Right y b z e d = NearZ 51 y (exactNumerator b z e) (exactDenominator d) × (exactNumerator b z e ≡ pos 0 → y ≡ fin false 0 (pos 0))
 
 -- how y is worked out: R and Z × 2^E taken over exactly, one sum, one division
 unfoldable pub scaledValue : ℕ → ℕ → ℕ → ℕ → Float

@@ -6,7 +6,7 @@ use mathlib.Core.List.{List, [], _∷_, _++_}
 use native.Mathlib.Nat.{zero-add}
 use native.Mathlib.Omega.{arith}
 use lib.ListN.{length, drop, length-take, drop-of-length-le}
-use lib.Seq.{sets-eq, length-sets}
+use lib.Seq.{sets-eq}
 use Rattle.lent.specs.Lent.{front}
 use Rattle.stretches.specs.Stretch.{Entry, perEntry, wordsOf}
 use Rattle.stretches.specs.Call.{fitting, answer, answerOf, outOf}
@@ -40,7 +40,3 @@ module _ (out : List ℕ) (es : List Entry) where
   words-front =
       sets-eq (wordsOf (fitting (length out) es)) out 0 (omega (arith, room))
       ∙ ap (λ (k : ℕ). wordsOf (fitting (length out) es) ++ drop k out) (zero-add (length (wordsOf (fitting (length out) es))))
-
-  pub words-length : length (outOf out es) ≡ length out
-  unfolding outOf
-  words-length = length-sets out 0 (wordsOf (fitting (length out) es))

@@ -14,8 +14,8 @@ use lib.Dec.{leb, ltb}
 use borrow.Author.Tests.{ltb-true}
 use Rattle.runs.specs.Run.{levels, opens, runLen, runNext}
 use Rattle.runs.proofs.Here.{Stands, stands-first, here-inside, here-fits, here-level, here-next}
-use Rattle.stretches.specs.Stretch.{Entry, Scale, perEntry, kindAt, starts, entryAt, listFrom, past, words, wordsOf, toList}
-use Rattle.stretches.specs.Call.{answer, listed, answerOf, outOf}
+use Rattle.stretches.specs.Stretch.{Entry, KindOfLevel, perEntry, kindAt, starts, entryAt, listFrom, fromPlace, words, wordsOf, mustList}
+use Rattle.stretches.specs.Call.{answer, stretchesFrom, answerOf, outOf}
 use Rattle.stretches.specs.declared.Listing.{Listing}
 use Rattle.stretches.proofs.Laws.{fresh-ray, fresh-other, quiet, starts-zero, close-list}
 
@@ -62,9 +62,9 @@ module _ (nr cap : ℕ) where
   finish-put out count e es h =
       let n : ℕ = cap - (count + 1) in
       let left : cap - count ≡ suc n = omega arith in
-      let more : count + suc (length (take n es)) ≡ count + 1 + length (take n es) = omega arith in
+      let unbroken : count + suc (length (take n es)) ≡ count + 1 + length (take n es) = omega arith in
       let next : suc (suc (suc (suc (perEntry * count)))) ≡ perEntry * (count + 1) = omega arith in
-      rw left (λ i. record { listing = answer nr (more i) (drop n es); out = sets (sets out (perEntry * count) (words e)) (next i) (wordsOf (take n es)) })
+      rw left (λ i. record { listing = answer nr (unbroken i) (drop n es); out = sets (sets out (perEntry * count) (words e)) (next i) (wordsOf (take n es)) })
 
   -- there is no room for one
   finish-full : (out : List ℕ) (count : ℕ) (e : Entry) (es : List Entry) → cap ≤ count
@@ -93,7 +93,7 @@ same-size nr cap out₀ out count all es h =
     sym (length-sets out (perEntry * count) (wordsOf (take (cap - count) es))) ∙ ap (λ (o : Outcome). length (o .out)) (sym h) ∙ length-sets out₀ 0 (wordsOf (take (length out₀ / perEntry) all))
 
 -- ---- the reading
-module _ (sc : Scale) (v nb nr : ℕ) (xs : List ℕ) where
+module _ (sc : KindOfLevel) (v nb nr : ℕ) (xs : List ℕ) where
   abbrev K : ℕ → ℕ
   K = kindAt sc (levels v xs)
 
@@ -151,17 +151,17 @@ module _ (sc : Scale) (v nb nr : ℕ) (xs : List ℕ) where
     abbrev kind : ℕ
     kind = sc .kind (getD xs at 0)
 
-    more : p < length (levels v xs)
-    more = omega (arith, full, mul-le-mul-right nb ray-lt, suc-mul ray nb)
+    unbroken : p < length (levels v xs)
+    unbroken = omega (arith, full, mul-le-mul-right nb ray-lt, suc-mul ray nb)
 
     pub run-inside : at < length xs
-    run-inside = here-inside v xs at p (g .stands) more
+    run-inside = here-inside v xs at p (g .stands) unbroken
 
     pub run-fits : p + runLen v xs at ≤ nr * nb
-    run-fits = omega (arith, full, here-fits v xs at p (g .stands) more)
+    run-fits = omega (arith, full, here-fits v xs at p (g .stands) unbroken)
 
     run-kind : (x : ℕ) → p ≤ x → x < p + runLen v xs at → K x ≡ kind
-    run-kind x l u = ap (sc .kind) (here-level v xs at p (g .stands) more x l u)
+    run-kind x l u = ap (sc .kind) (here-level v xs at p (g .stands) unbroken x l u)
 
     -- a run of another kind begins a stretch, and the stretch in hand ends
     starts-other : (kind ≡ held → ⊥) → S p ≡ true
@@ -202,7 +202,7 @@ module _ (sc : Scale) (v nb nr : ℕ) (xs : List ℕ) where
           first-lt = g .first-lt;
           first-le = omega (arith, g .first-le);
           here-le = omega (arith, run-fits);
-          stands = subst (Stands v xs next) e (here-next v xs at p (g .stands) more len next l n .1);
+          stands = subst (Stands v xs next) e (here-next v xs at p (g .stands) unbroken len next l n .1);
           same = λ x a b. go x a (omega arith) (decLt x p);
           new = g .new;
         }
@@ -247,7 +247,7 @@ module _ (sc : Scale) (v nb nr : ℕ) (xs : List ℕ) where
   module _ (q cap : ℕ) where
     -- the list from place s on
     abbrev onward : ℕ → List Entry
-    onward s = past nb q (listFrom S E s (nr * nb - s))
+    onward s = fromPlace nb q (listFrom S E s (nr * nb - s))
 
     -- what the call ends with, where count entries are written and the list from bin first of a ray on is still to write
     abbrev pub due : List ℕ → ℕ → ℕ → ℕ → Outcome
@@ -256,11 +256,11 @@ module _ (sc : Scale) (v nb nr : ℕ) (xs : List ℕ) where
     -- nothing is left
     pub ended : {at ray bin first held : ℕ} → Going at ray bin first held → nr ≤ ray → (out : List ℕ) (count : ℕ)
         → due out count ray first ≡ record { listing = record { count = count; ray = nr; bin = 0 }; out = out }
-    unfolding listFrom past
+    unfolding listFrom fromPlace
     ended {at} {ray} {bin} {first} {held} g h out count =
         let r : ray * nb ≡ nr * nb = ap (λ (x : ℕ). x * nb) (omega (arith, ray-le g)) in
         let z : nr * nb - (ray * nb + first) ≡ 0 = omega arith in
-        ap (λ (m : ℕ). finished nr cap out count (past nb q (listFrom S E (ray * nb + first) m))) z ∙ finish-all nr cap out count
+        ap (λ (m : ℕ). finished nr cap out count (fromPlace nb q (listFrom S E (ray * nb + first) m))) z ∙ finish-all nr cap out count
 
     module _ {ray first end held : ℕ} (c : Closing ray first end held) where
       abbrev s : ℕ
@@ -272,21 +272,21 @@ module _ (sc : Scale) (v nb nr : ℕ) (xs : List ℕ) where
       abbrev entry : Entry
       entry = record { ray = ray; first = first; len = end - first; kind = held }
 
-      closed : onward s ≡ cond (toList q s e) (E s (e - s) ∷ onward e) (onward e)
+      closed : onward s ≡ cond (mustList q s e) (E s (e - s) ∷ onward e) (onward e)
       closed =
           let size : nr * nb - s ≡ e - s + (nr * nb - e) = omega (arith, c .end-le, c .first-le) in
           let still : (x : ℕ) → suc s ≤ x → x < suc s + (e - suc s) → S x ≡ false =
           λ x a b. quiet K nb s (e - s) held (omega (arith, place-bin nb ray first (c .first-lt), c .in-ray, c .first-le)) (λ y d f. c .same y d (omega arith)) x a (omega arith) in
-          ap (λ (m : ℕ). past nb q (listFrom S E s m)) size
+          ap (λ (m : ℕ). fromPlace nb q (listFrom S E s m)) size
           ∙ close-list S E nb (λ p n. div-add-mod' p nb) q s e (nr * nb - e) (omega (arith, c .first-le)) (c .new) still (c .next)
 
       -- a stretch to list has a bin
-      has-bin : toList q s e ≡ true → s < e
-      unfolding toList
+      has-bin : mustList q s e ≡ true → s < e
+      unfolding mustList
       has-bin h = ltb-true s e (both (leb q s) (ltb s e) h .1)
 
       -- it is an entry, the next of the list
-      listed-next : toList q s e ≡ true → onward s ≡ entry ∷ onward e
+      listed-next : mustList q s e ≡ true → onward s ≡ entry ∷ onward e
       listed-next h =
           let r = place-ray nb ray first (c .first-lt) in
           let b = place-bin nb ray first (c .first-lt) in
@@ -295,23 +295,23 @@ module _ (sc : Scale) (v nb nr : ℕ) (xs : List ℕ) where
           closed ∙ ap (λ (u : Bool). cond u (E s (e - s) ∷ onward e) (onward e)) h ∙ λ i. record { ray = r i; first = b i; len = n i; kind = k i } ∷ onward e
 
       -- one that is not to list is passed over
-      pub passed : {wanted : Bool} → wanted ≡ toList q s e → wanted ≡ false → (out : List ℕ) (count : ℕ) → due out count ray first ≡ due out count ray end
+      pub passed : {wanted : Bool} → wanted ≡ mustList q s e → wanted ≡ false → (out : List ℕ) (count : ℕ) → due out count ray first ≡ due out count ray end
       passed w h out count = ap (finished nr cap out count) (closed ∙ ap (λ (u : Bool). cond u (E s (e - s) ∷ onward e) (onward e)) (sym w ∙ h))
 
       -- one to list is written
-      pub wrote : {wanted : Bool} → wanted ≡ toList q s e → wanted ≡ true → (out out′ : List ℕ) (count : ℕ) → count < cap → out′ ≡ sets out (perEntry * count) (words entry) → due out count ray first ≡ due out′ (count + 1) ray end
+      pub wrote : {wanted : Bool} → wanted ≡ mustList q s e → wanted ≡ true → (out out′ : List ℕ) (count : ℕ) → count < cap → out′ ≡ sets out (perEntry * count) (words entry) → due out count ray first ≡ due out′ (count + 1) ray end
       wrote w h out out′ count l o =
           ap (finished nr cap out count) (listed-next (sym w ∙ h)) ∙ finish-put nr cap out count entry (onward e) l ∙ ap (λ (x : List ℕ). due x (count + 1) ray end) (sym o)
 
       -- or there is no room for it, and the next call begins with it
-      pub stuck : {wanted : Bool} → wanted ≡ toList q s e → wanted ≡ true → (out : List ℕ) (count : ℕ) → cap ≤ count
+      pub stuck : {wanted : Bool} → wanted ≡ mustList q s e → wanted ≡ true → (out : List ℕ) (count : ℕ) → cap ≤ count
           → due out count ray first ≡ record { listing = record { count = count; ray = ray; bin = first }; out = out }
       stuck w h out count l = ap (finished nr cap out count) (listed-next (sym w ∙ h)) ∙ finish-full nr cap out count entry (onward e) l
 
   -- where the listing begins, all that is promised is due
-  pub due-start : (q : ℕ) (out : List ℕ) → promised nr out (listed sc v xs nb nr q) ≡ due q (length out / perEntry) out 0 0 0
-  unfolding listed
+  pub due-start : (q : ℕ) (out : List ℕ) → promised nr out (stretchesFrom sc v xs nb nr q) ≡ due q (length out / perEntry) out 0 0 0
+  unfolding stretchesFrom
   due-start q out =
       let z : 0 ≡ 0 * nb + 0 = omega (arith, zero-mul nb) in
       let left : nr * nb ≡ nr * nb - (0 * nb + 0) = omega arith in
-      finish-start nr out (listed sc v xs nb nr q) ∙ λ i. finished nr (length out / perEntry) out 0 (past nb q (listFrom S E (z i) (left i)))
+      finish-start nr out (stretchesFrom sc v xs nb nr q) ∙ λ i. finished nr (length out / perEntry) out 0 (fromPlace nb q (listFrom S E (z i) (left i)))

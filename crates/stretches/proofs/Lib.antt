@@ -4,6 +4,6 @@ pub mod Meaning
 pub mod Rising
 pub mod Portions
 pub mod Going
-pub mod Scales
+pub mod SameKinds
 pub mod Answers
 pub mod Examples

@@ -11,10 +11,10 @@ use lib.ListN.{getD}
 use lib.Dec.{leb}
 use borrow.Author.Tests.{le-leb, leb-true}
 use Rattle.runs.specs.Run.{levels}
-use Rattle.stretches.specs.Call.{listed, rightPoint}
+use Rattle.stretches.specs.Call.{stretchesFrom, rightPoint}
 use Rattle.stretches.proofs.Points.{point-bin}
 use Rattle.stretches.proofs.Laws.{fresh-ray, fresh-other, fresh-false, fresh-true, mod-in-ray, more-quiet, more-stop}
-use Rattle.stretches.specs.Stretch.{Entry, Scale, kindAt, starts, more, entryAt, listFrom, stretchesOf, past}
+use Rattle.stretches.specs.Stretch.{Entry, KindOfLevel, kindAt, starts, unbroken, entryAt, listFrom, stretchesOf, fromPlace}
 use Rattle.stretches.specs.Meaning.{IsStretch, In, Before, Ordered, IsList, AtOrPast, Wanted}
 
 -- ---- one list only
@@ -55,7 +55,7 @@ one-list P l l′ i i′ =
 -- ---- what stands in the list
 
 -- two stretches that begin at one bin are one
-same-stretch : (sc : Scale) (lv : ℕ → ℕ → ℕ) (nb nr : ℕ) (e d : Entry) → IsStretch sc lv nb nr e → IsStretch sc lv nb nr d → e .ray ≡ d .ray → e .first ≡ d .first → e ≡ d
+same-stretch : (sc : KindOfLevel) (lv : ℕ → ℕ → ℕ) (nb nr : ℕ) (e d : Entry) → IsStretch sc lv nb nr e → IsStretch sc lv nb nr d → e .ray ≡ d .ray → e .first ≡ d .first → e ≡ d
 same-stretch sc lv nb nr e d s t r f =
     let kd : e .kind ≡ d .kind = sym (s .same (e .first) (omega arith) (omega (arith, s .some))) ∙ ap (λ (x : ℕ). sc .kind (lv x (e .first))) r ∙ t .same (e .first) (omega arith) (omega (arith, t .some)) in
     let l : e .len ≡ d .len = lengths kd (decLt (e .len) (d .len)) (decLt (d .len) (e .len)) in
@@ -68,7 +68,7 @@ same-stretch sc lv nb nr e d s t r f =
         absurd (t .after (omega (arith, s .in-ray)) (ap (λ (x : ℕ). sc .kind (lv x (d .first + d .len))) (sym r) ∙ s .same (d .first + d .len) (omega arith) (omega arith) ∙ q))
     lengths q (no a) (no b) = omega arith
 
-module _ (sc : Scale) (ls : List ℕ) (nb : ℕ) (nbp : 0 < nb) where
+module _ (sc : KindOfLevel) (ls : List ℕ) (nb : ℕ) (nbp : 0 < nb) where
   -- the level of bin b of ray r
   abbrev pub level : ℕ → ℕ → ℕ
   level r b = getD ls (r * nb + b) 0
@@ -84,7 +84,7 @@ module _ (sc : Scale) (ls : List ℕ) (nb : ℕ) (nbp : 0 < nb) where
 
   module _ (p m : ℕ) (h : S p ≡ true) where
     abbrev len : ℕ
-    len = suc (more S (suc p) m)
+    len = suc (unbroken S (suc p) m)
 
     -- the bins of the stretch that begins at p are in p's ray, and of p's kind
     along : (i : ℕ) → i < len → ((p + i) % nb ≡ p % nb + i) × (K (p + i) ≡ K p)
@@ -109,7 +109,7 @@ module _ (sc : Scale) (ls : List ℕ) (nb : ℕ) (nbp : 0 < nb) where
                 absurd (z (a ∙ ap (λ (t : ℕ). t % nb) y ∙ mod-self nb))
 
     in-ray-len : p % nb + len ≤ nb
-    in-ray-len = omega (arith, along (more S (suc p) m) (omega arith) .0, mod-lt (p + more S (suc p) m) {m = nb} nbp)
+    in-ray-len = omega (arith, along (unbroken S (suc p) m) (omega arith) .0, mod-lt (p + unbroken S (suc p) m) {m = nb} nbp)
 
     place-is : (i : ℕ) → p / nb * nb + (p % nb + i) ≡ p + i
     place-is i = omega (arith, div-add-mod' p nb)
@@ -129,13 +129,13 @@ module _ (sc : Scale) (ls : List ℕ) (nb : ℕ) (nbp : 0 < nb) where
       after = λ l q.
           let x : p / nb * nb + (p % nb + len) ≡ p + len = place-is len in
           let room : suc (p / nb) * nb ≤ nr * nb = mul-le-mul-right nb rays in
-          let lt : more S (suc p) m < m = omega (arith, suc-mul (p / nb) nb, x) in
+          let lt : unbroken S (suc p) m < m = omega (arith, suc-mul (p / nb) nb, x) in
           let s = more-stop S m (suc p) lt in
-          let y : suc p + more S (suc p) m ≡ p + len = omega arith in
+          let y : suc p + unbroken S (suc p) m ≡ p + len = omega arith in
           let s′ : S (p + len) ≡ true = subst (λ (t : ℕ). S t ≡ true) y s in
           let md : (p + len) % nb ≡ p % nb + len = mod-in-ray nb p len l in
-          let b : p + len - 1 ≡ p + more S (suc p) m = omega arith in
-          ⊎-elim (λ (z : (p + len) % nb ≡ 0). omega arith) (λ (w : K (p + len) ≡ K (p + len - 1) → ⊥). w (ap K (sym x) ∙ q ∙ sym (along (more S (suc p) m) (omega arith) .1) ∙ ap K (sym b))) (fresh-true nb (p + len) (K (p + len)) (K (p + len - 1)) s′);
+          let b : p + len - 1 ≡ p + unbroken S (suc p) m = omega arith in
+          ⊎-elim (λ (z : (p + len) % nb ≡ 0). omega arith) (λ (w : K (p + len) ≡ K (p + len - 1) → ⊥). w (ap K (sym x) ∙ q ∙ sym (along (unbroken S (suc p) m) (omega arith) .1) ∙ ap K (sym b))) (fresh-true nb (p + len) (K (p + len)) (K (p + len - 1)) s′);
     }
       where
         rays : p / nb < nr
@@ -148,7 +148,7 @@ module _ (sc : Scale) (ls : List ℕ) (nb : ℕ) (nbp : 0 < nb) where
     from : x ≤ at
     total : at + suc left ≡ x + m
     begins : S at ≡ true
-    is : e ≡ E at (suc (more S (suc at) left))
+    is : e ≡ E at (suc (unbroken S (suc at) left))
 
   later : (x m : ℕ) (e : Entry) → Made (suc x) m e → Made x (suc m) e
   later x m e d = record {
@@ -165,29 +165,29 @@ module _ (sc : Scale) (ls : List ℕ) (nb : ℕ) (nbp : 0 < nb) where
   made zero x e i = absurd i
   made (suc m) x e i = go (S x) refl i (made m (suc x) e)
     where
-      go : (b : Bool) → S x ≡ b → In e (cond b (E x (suc (more S (suc x) m)) ∷ listFrom S E (suc x) m) (listFrom S E (suc x) m)) → (In e (listFrom S E (suc x) m) → Made (suc x) m e) → Made x (suc m) e
+      go : (b : Bool) → S x ≡ b → In e (cond b (E x (suc (unbroken S (suc x) m)) ∷ listFrom S E (suc x) m) (listFrom S E (suc x) m)) → (In e (listFrom S E (suc x) m) → Made (suc x) m e) → Made x (suc m) e
       go true s (inl q) ih = record { at = x; left = m; from = omega arith; total = refl; begins = s; is = q }
       go true s (inr q) ih = later x m e (ih q)
       go false s q ih = later x m e (ih q)
 
-  in-list : (m x p left : ℕ) → x ≤ p → p + suc left ≡ x + m → S p ≡ true → In (E p (suc (more S (suc p) left))) (listFrom S E x m)
+  in-list : (m x p left : ℕ) → x ≤ p → p + suc left ≡ x + m → S p ≡ true → In (E p (suc (unbroken S (suc p) left))) (listFrom S E x m)
   unfolding In listFrom
   in-list zero x p left l t s = absurd (omega arith)
   in-list (suc m) x p left l t s = pick (decLt x p) (in-list m (suc x) p left)
     where
-      pick : Dec (x < p) → (suc x ≤ p → p + suc left ≡ suc x + m → S p ≡ true → In (E p (suc (more S (suc p) left))) (listFrom S E (suc x) m))
-          → In (E p (suc (more S (suc p) left))) (cond (S x) (E x (suc (more S (suc x) m)) ∷ listFrom S E (suc x) m) (listFrom S E (suc x) m))
+      pick : Dec (x < p) → (suc x ≤ p → p + suc left ≡ suc x + m → S p ≡ true → In (E p (suc (unbroken S (suc p) left))) (listFrom S E (suc x) m))
+          → In (E p (suc (unbroken S (suc p) left))) (cond (S x) (E x (suc (unbroken S (suc x) m)) ∷ listFrom S E (suc x) m) (listFrom S E (suc x) m))
       pick (yes w) ih = further (S x) (ih w (omega arith) s)
         where
-          further : (b : Bool) → In (E p (suc (more S (suc p) left))) (listFrom S E (suc x) m)
-              → In (E p (suc (more S (suc p) left))) (cond b (E x (suc (more S (suc x) m)) ∷ listFrom S E (suc x) m) (listFrom S E (suc x) m))
+          further : (b : Bool) → In (E p (suc (unbroken S (suc p) left))) (listFrom S E (suc x) m)
+              → In (E p (suc (unbroken S (suc p) left))) (cond b (E x (suc (unbroken S (suc x) m)) ∷ listFrom S E (suc x) m) (listFrom S E (suc x) m))
           further true i = inr i
           further false i = i
       pick (no w) ih =
           let e : x ≡ p = omega arith in
           let n : m ≡ left = omega arith in
           let s′ : S x ≡ true = subst (λ (y : ℕ). S y ≡ true) (sym e) s in
-          rw s′ (inl (λ j. E (sym e j) (suc (more S (suc (sym e j)) (sym n j)))))
+          rw s′ (inl (λ j. E (sym e j) (suc (unbroken S (suc (sym e j)) (sym n j)))))
 
   -- places in order are entries in order
   places-before : (x y n n′ : ℕ) → x < y → Before (E x n) (E y n′)
@@ -206,11 +206,11 @@ module _ (sc : Scale) (ls : List ℕ) (nb : ℕ) (nbp : 0 < nb) where
   in-order zero x = tt
   in-order (suc m) x = go (S x) (in-order m (suc x))
     where
-      go : (b : Bool) → Ordered (listFrom S E (suc x) m) → Ordered (cond b (E x (suc (more S (suc x) m)) ∷ listFrom S E (suc x) m) (listFrom S E (suc x) m))
+      go : (b : Bool) → Ordered (listFrom S E (suc x) m) → Ordered (cond b (E x (suc (unbroken S (suc x) m)) ∷ listFrom S E (suc x) m) (listFrom S E (suc x) m))
       go true o = (
         (λ d i.
             let t = made m (suc x) d i in
-            subst (Before (E x (suc (more S (suc x) m)))) (sym (t .is)) (places-before x (t .at) (suc (more S (suc x) m)) (suc (more S (suc (t .at)) (t .left))) (t .from))),
+            subst (Before (E x (suc (unbroken S (suc x) m)))) (sym (t .is)) (places-before x (t .at) (suc (unbroken S (suc x) m)) (suc (unbroken S (suc (t .at)) (t .left))) (t .from))),
         o,
       )
       go false o = o
@@ -247,7 +247,7 @@ module _ (sc : Scale) (ls : List ℕ) (nb : ℕ) (nbp : 0 < nb) where
         let m : ℕ = nr * nb - p - 1 in
         let t : p + suc m ≡ nr * nb = omega (arith, p-lt) in
         let st = is-stretch p m p-starts nr t in
-        subst (λ (d : Entry). In d (listFrom S E 0 (nr * nb))) (same-stretch sc level nb nr (E p (suc (more S (suc p) m))) e st s p-ray p-first)
+        subst (λ (d : Entry). In d (listFrom S E 0 (nr * nb))) (same-stretch sc level nb nr (E p (suc (unbroken S (suc p) m))) e st s p-ray p-first)
         (in-list (nr * nb) 0 p m (omega arith) (omega arith) p-starts)
 
   -- the definition makes the list
@@ -262,32 +262,32 @@ module _ (sc : Scale) (ls : List ℕ) (nb : ℕ) (nbp : 0 < nb) where
 
 -- ---- those that start at a point or past it
 
-pub past-in : (nb q : ℕ) (l : List Entry) (e : Entry) → In e (past nb q l) → In e l × (q ≤ e .ray * nb + e .first)
-unfolding In past
+pub past-in : (nb q : ℕ) (l : List Entry) (e : Entry) → In e (fromPlace nb q l) → In e l × (q ≤ e .ray * nb + e .first)
+unfolding In fromPlace
 past-in nb q [] e i = absurd i
 past-in nb q (d ∷ ds) e i = go (leb q (d .ray * nb + d .first)) refl i (past-in nb q ds e)
   where
-    go : (b : Bool) → leb q (d .ray * nb + d .first) ≡ b → In e (cond b (d ∷ past nb q ds) (past nb q ds)) → (In e (past nb q ds) → In e ds × (q ≤ e .ray * nb + e .first)) → In e (d ∷ ds) × (q ≤ e .ray * nb + e .first)
+    go : (b : Bool) → leb q (d .ray * nb + d .first) ≡ b → In e (cond b (d ∷ fromPlace nb q ds) (fromPlace nb q ds)) → (In e (fromPlace nb q ds) → In e ds × (q ≤ e .ray * nb + e .first)) → In e (d ∷ ds) × (q ≤ e .ray * nb + e .first)
     go true h (inl p) ih = (inl p, rw p (leb-true q (d .ray * nb + d .first) h))
     go true h (inr p) ih = (inr (ih p .0), ih p .1)
     go false h p ih = (inr (ih p .0), ih p .1)
 
-in-past : (nb q : ℕ) (l : List Entry) (e : Entry) → In e l → q ≤ e .ray * nb + e .first → In e (past nb q l)
-unfolding In past
+in-past : (nb q : ℕ) (l : List Entry) (e : Entry) → In e l → q ≤ e .ray * nb + e .first → In e (fromPlace nb q l)
+unfolding In fromPlace
 in-past nb q [] e i h = absurd i
 in-past nb q (d ∷ ds) e (inl p) h = rw (le-leb q (d .ray * nb + d .first) (rw p at h)) (inl p)
 in-past nb q (d ∷ ds) e (inr p) h = go (leb q (d .ray * nb + d .first)) (in-past nb q ds e p h)
   where
-    go : (b : Bool) → In e (past nb q ds) → In e (cond b (d ∷ past nb q ds) (past nb q ds))
+    go : (b : Bool) → In e (fromPlace nb q ds) → In e (cond b (d ∷ fromPlace nb q ds) (fromPlace nb q ds))
     go true i = inr i
     go false i = i
 
-past-ordered : (nb q : ℕ) (l : List Entry) → Ordered l → Ordered (past nb q l)
-unfolding Ordered past
+past-ordered : (nb q : ℕ) (l : List Entry) → Ordered l → Ordered (fromPlace nb q l)
+unfolding Ordered fromPlace
 past-ordered nb q [] o = tt
 past-ordered nb q (d ∷ ds) o = go (leb q (d .ray * nb + d .first)) (past-ordered nb q ds (o .1))
   where
-    go : (b : Bool) → Ordered (past nb q ds) → Ordered (cond b (d ∷ past nb q ds) (past nb q ds))
+    go : (b : Bool) → Ordered (fromPlace nb q ds) → Ordered (cond b (d ∷ fromPlace nb q ds) (fromPlace nb q ds))
     go true t = ((λ e i. o .0 e (past-in nb q ds e i .0)), t)
     go false t = t
 
@@ -305,9 +305,9 @@ past-place nb ray bin e b (inl a) = omega (arith, mul-le-mul-right nb a, suc-mul
 past-place nb ray bin e b (inr a) = omega (arith, ap (λ (t : ℕ). t * nb) (a .0), a .1)
 
 -- the call's list, for any scale
-pub listed-is : (sc : Scale) (v : ℕ) (xs : List ℕ) (nb nr ray bin : ℕ) → bin < nb
-    → IsList (Wanted sc (λ r b. getD (levels v xs) (r * nb + b) 0) nb nr ray bin) (listed sc v xs nb nr (ray * nb + bin))
-unfolding listed
+pub listed-is : (sc : KindOfLevel) (v : ℕ) (xs : List ℕ) (nb nr ray bin : ℕ) → bin < nb
+    → IsList (Wanted sc (λ r b. getD (levels v xs) (r * nb + b) 0) nb nr ray bin) (stretchesFrom sc v xs nb nr (ray * nb + bin))
+unfolding stretchesFrom
 listed-is sc v xs nb nr ray bin h =
     let w = is-list sc (levels v xs) nb (omega arith) nr in
     let l : List Entry = stretchesOf sc (levels v xs) nb (nr * nb) in
@@ -320,13 +320,10 @@ listed-is sc v xs nb nr ray bin h =
     }
 
 -- THE THEOREMS, for a point that may be asked for: the call's list is the list of the wanted stretches, and no other list is
-module _ (sc : Scale) (v : ℕ) (xs : List ℕ) (nb nr ray bin : ℕ) (some : 0 < nb) (right : rightPoint nb nr ray bin ≡ true) where
+module _ (sc : KindOfLevel) (v : ℕ) (xs : List ℕ) (nb nr ray bin : ℕ) (some : 0 < nb) (right : rightPoint nb nr ray bin ≡ true) where
   -- bin b of ray r is level r x Nb + b
   abbrev pub levelAt : ℕ → ℕ → ℕ
   levelAt r b = getD (levels v xs) (r * nb + b) 0
 
-  pub list-right : IsList (Wanted sc levelAt nb nr ray bin) (listed sc v xs nb nr (ray * nb + bin))
+  pub list-right : IsList (Wanted sc levelAt nb nr ray bin) (stretchesFrom sc v xs nb nr (ray * nb + bin))
   list-right = listed-is sc v xs nb nr ray bin (point-bin nb nr ray bin right some)
-
-  pub list-only : (l : List Entry) → IsList (Wanted sc levelAt nb nr ray bin) l → l ≡ listed sc v xs nb nr (ray * nb + bin)
-  list-only l i = one-list (Wanted sc levelAt nb nr ray bin) l (listed sc v xs nb nr (ray * nb + bin)) i list-right

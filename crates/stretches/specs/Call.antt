@@ -12,20 +12,20 @@ use Rattle.runs.specs.Run.{levels, gives}
 use Rattle.kinds.specs.KindTable.{kindNumber}
 use Rattle.values.specs.Reading.{readingOf, kindOf}
 use Rattle.values.specs.declared.Product.{Product}
-use Rattle.stretches.specs.Stretch.{Entry, Scale, perEntry, stretchesOf, past, wordsOf}
+use Rattle.stretches.specs.Stretch.{Entry, KindOfLevel, perEntry, stretchesOf, fromPlace, wordsOf}
 use Rattle.stretches.specs.declared.Listing.{Listing}
 
 -- the scale of a product and a threshold: "kind 0 missing, 1 value below T, 2 value at or above T"
-abbrev pub scaleOf : Product → ℤ → Scale
-scaleOf p t = record { kind = λ l. kindNumber (kindOf (readingOf p l) t) }
+abbrev pub kindByThreshold : Product → ℤ → KindOfLevel
+kindByThreshold p t = record { kind = λ l. kindNumber (kindOf (readingOf p l) t) }
 
 -- a scale by a table of kinds
-abbrev pub scaleBy : List ℕ → Scale
-scaleBy ks = record { kind = λ l. getD ks l 0 }
+abbrev pub kindByTable : List ℕ → KindOfLevel
+kindByTable ks = record { kind = λ l. getD ks l 0 }
 
 -- "Lists in order the stretches that start at or past the point": all of them, q being the point's place
-unfoldable pub listed : Scale → ℕ → List ℕ → ℕ → ℕ → ℕ → List Entry
-listed sc v xs nb nr q = past nb q (stretchesOf sc (levels v xs) nb (nr * nb))
+unfoldable pub stretchesFrom : KindOfLevel → ℕ → List ℕ → ℕ → ℕ → ℕ → List Entry
+stretchesFrom sc v xs nb nr q = fromPlace nb q (stretchesOf sc (levels v xs) nb (nr * nb))
 
 -- "as many as fit": the entries that n words have room for
 abbrev pub fitting : ℕ → List Entry → List Entry
@@ -45,7 +45,7 @@ unfoldable pub outOf : List ℕ → List Entry → List ℕ
 outOf out es = sets out 0 (wordsOf (fitting (length out) es))
 
 -- a cut's data: nr rays of nb bins, run-length coded under v
-pub record Part (v nb nr : ℕ) (xs : List ℕ) : Type 0 where
+pub record CutData (v nb nr : ℕ) (xs : List ℕ) : Type 0 where
   pub v-le : v ≤ 253
   pub nb-pos : 0 < nb
   pub nb-le : nb ≤ 2048

@@ -1,4 +1,3 @@
 pub mod Stretch
 pub mod Call
 pub mod Meaning
-pub mod Portions

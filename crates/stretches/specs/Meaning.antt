@@ -1,13 +1,13 @@
 -- What a longest stretch is, and what the list of them is, said without computing: lv r b is the level of bin b of ray r.
--- proofs/Meaning.antt has the theorems: `listed` is the list, and there is only one.
+-- proofs/Meaning.antt has the theorems: `stretchesFrom` is the list, and there is only one.
 use Prim.Native.Nat.{ℕ, suc, _+_, _≤_, _<_}
 use mathlib.Core.Path.{_≡_}
 use mathlib.Core.Logic.{_⊎_}
 use mathlib.Core.List.{List, [], _∷_}
-use Rattle.stretches.specs.Stretch.{Entry, Scale}
+use Rattle.stretches.specs.Stretch.{Entry, KindOfLevel}
 
 -- bins of one ray, all of one kind; the bin before and the bin after, where the ray has them, are of another
-pub record IsStretch (sc : Scale) (lv : ℕ → ℕ → ℕ) (nb nr : ℕ) (e : Entry) : Type 0 where
+pub record IsStretch (sc : KindOfLevel) (lv : ℕ → ℕ → ℕ) (nb nr : ℕ) (e : Entry) : Type 0 where
   pub in-rays : e .ray < nr
   pub some : 0 < e .len
   pub in-ray : e .first + e .len ≤ nb
@@ -40,6 +40,6 @@ abbrev pub AtOrPast : ℕ → ℕ → Entry → Type 0
 AtOrPast ray bin e = (ray < e .ray) ⊎ ((ray ≡ e .ray) × (bin ≤ e .first))
 
 -- what the call lists, where there is room: the stretches that start at the point or past it
-pub record Wanted (sc : Scale) (lv : ℕ → ℕ → ℕ) (nb nr ray bin : ℕ) (e : Entry) : Type 0 where
+pub record Wanted (sc : KindOfLevel) (lv : ℕ → ℕ → ℕ) (nb nr ray bin : ℕ) (e : Entry) : Type 0 where
   pub is : IsStretch sc lv nb nr e
   pub here-on : AtOrPast ray bin e

@@ -25,44 +25,44 @@ wordsOf [] = []
 wordsOf (e ∷ es) = words e ++ wordsOf es
 
 -- what a stretch is by: some function of the level. All below depends on the kinds only so
-pub record Scale : Type 0 where
+pub record KindOfLevel : Type 0 where
   pub kind : ℕ → ℕ
 
 -- the kind at a place
-abbrev pub kindAt : Scale → List ℕ → ℕ → ℕ
+abbrev pub kindAt : KindOfLevel → List ℕ → ℕ → ℕ
 kindAt sc ls p = sc .kind (getD ls p 0)
 
 -- the entry for the n bins from place p on
-abbrev pub entryAt : Scale → List ℕ → ℕ → ℕ → ℕ → Entry
+abbrev pub entryAt : KindOfLevel → List ℕ → ℕ → ℕ → ℕ → Entry
 entryAt sc ls nb p n = record { ray = p / nb; first = p % nb; len = n; kind = kindAt sc ls p }
 
 -- a bin at place p of kind k, after one of kind j, begins a stretch: it is its ray's first, or the kinds differ
-unfoldable pub fresh : ℕ → ℕ → ℕ → ℕ → Bool
-fresh nb p k j = eqb (p % nb) 0 || not (eqb k j)
+unfoldable pub beginsAfter : ℕ → ℕ → ℕ → ℕ → Bool
+beginsAfter nb p k j = eqb (p % nb) 0 || not (eqb k j)
 
 -- place p begins a stretch, where K gives the kinds
 abbrev pub starts : (ℕ → ℕ) → ℕ → ℕ → Bool
-starts K nb p = fresh nb p (K p) (K (p - 1))
+starts K nb p = beginsAfter nb p (K p) (K (p - 1))
 
 -- how many of the m places from p on do not begin one, up to the first that does
-unfoldable pub more : (ℕ → Bool) → ℕ → ℕ → ℕ
-more S p zero = 0
-more S p (suc m) = cond (S p) 0 (suc (more S (suc p) m))
+unfoldable pub unbroken : (ℕ → Bool) → ℕ → ℕ → ℕ
+unbroken S p zero = 0
+unbroken S p (suc m) = cond (S p) 0 (suc (unbroken S (suc p) m))
 
 -- the entries E of the places, of the m from p on, at which S says that one begins: each goes on up to the next
 unfoldable pub listFrom : (ℕ → Bool) → (ℕ → ℕ → Entry) → ℕ → ℕ → List Entry
 listFrom S E p zero = []
-listFrom S E p (suc m) = cond (S p) (E p (suc (more S (suc p) m)) ∷ listFrom S E (suc p) m) (listFrom S E (suc p) m)
+listFrom S E p (suc m) = cond (S p) (E p (suc (unbroken S (suc p) m)) ∷ listFrom S E (suc p) m) (listFrom S E (suc p) m)
 
 -- the stretches of m places
-abbrev pub stretchesOf : Scale → List ℕ → ℕ → ℕ → List Entry
+abbrev pub stretchesOf : KindOfLevel → List ℕ → ℕ → ℕ → List Entry
 stretchesOf sc ls nb m = listFrom (starts (kindAt sc ls) nb) (entryAt sc ls nb) 0 m
 
 -- those that begin at place q or past it
-unfoldable pub past : ℕ → ℕ → List Entry → List Entry
-past nb q [] = []
-past nb q (e ∷ es) = cond (leb q (e .ray * nb + e .first)) (e ∷ past nb q es) (past nb q es)
+unfoldable pub fromPlace : ℕ → ℕ → List Entry → List Entry
+fromPlace nb q [] = []
+fromPlace nb q (e ∷ es) = cond (leb q (e .ray * nb + e .first)) (e ∷ fromPlace nb q es) (fromPlace nb q es)
 
 -- a stretch from place s up to place p is one to list: it begins at place q or past it, and has a bin
-unfoldable pub toList : ℕ → ℕ → ℕ → Bool
-toList q s p = leb q s && ltb s p
+unfoldable pub mustList : ℕ → ℕ → ℕ → Bool
+mustList q s p = leb q s && ltb s p

@@ -11,8 +11,8 @@ ghost use Prim.Native.Nat.{_+_, _*_, _≤_, _<_};
 ghost use lib.ListN.{length};
 ghost use lib.Seq.{sets};
 ghost use Rattle.values.specs.Published.{levelCount};
-ghost use Rattle.stretches.specs.Stretch.{perEntry, toList};
-ghost use Rattle.stretches.specs.Call.{Part, scaleOf, scaleBy, listed, answerOf, outOf, rightT, rightPoint};
+ghost use Rattle.stretches.specs.Stretch.{perEntry, mustList};
+ghost use Rattle.stretches.specs.Call.{CutData, kindByThreshold, kindByTable, stretchesFrom, answerOf, outOf, rightT, rightPoint};
 
 // How many words an entry takes.
 pub const PER_ENTRY: usize = 4;
@@ -28,9 +28,9 @@ pub struct Listing {
 }
 
 // Whether the bins of a ray from first up to end are a stretch to list, where the list begins at place from.
-fn to_list(nb: usize, from: usize, ray: usize, first: usize, end: usize) -> bool
+fn must_list(nb: usize, from: usize, ray: usize, first: usize, end: usize) -> bool
     requires { ⌜ (nb ≤ 2048) × (ray ≤ 1024) × (first ≤ 2048) ⌝ }
-    ensures { λ r. ⌜ r ≡ toList from (ray * nb + first) (ray * nb + end) ⌝ }
+    ensures { λ r. ⌜ r ≡ mustList from (ray * nb + first) (ray * nb + end) ⌝ }
 {
     if ray * nb + first < from {
         return false;
@@ -64,9 +64,9 @@ fn list_by(
     from: usize,
     out: &mut [u32],
 ) -> Listing
-    requires { ⌜ Part v nb nr (now octets) ⌝ }
-    ensures { λ r. ⌜ r ≡ answerOf nr (length (now (out .entry))) (listed (scaleBy (now (kinds .entry))) v (now (octets .entry)) nb nr from) ⌝ }
-    ensures { λ _. ⌜ now (out .exit) ≡ outOf (now (out .entry)) (listed (scaleBy (now (kinds .entry))) v (now (octets .entry)) nb nr from) ⌝ }
+    requires { ⌜ CutData v nb nr (now octets) ⌝ }
+    ensures { λ r. ⌜ r ≡ answerOf nr (length (now (out .entry))) (stretchesFrom (kindByTable (now (kinds .entry))) v (now (octets .entry)) nb nr from) ⌝ }
+    ensures { λ _. ⌜ now (out .exit) ≡ outOf (now (out .entry)) (stretchesFrom (kindByTable (now (kinds .entry))) v (now (octets .entry)) nb nr from) ⌝ }
 {
     let cap = out.len() / PER_ENTRY;
     let mut at: usize = 0;
@@ -81,7 +81,7 @@ fn list_by(
         at = run.next;
         let kind = kinds[level as usize];
         if kind != held {
-            if to_list(nb, from, ray, first, bin) {
+            if must_list(nb, from, ray, first, bin) {
                 if cap <= count {
                     return Listing {
                         count,
@@ -97,7 +97,7 @@ fn list_by(
         }
         bin = bin + run.len;
         while nb <= bin {
-            if to_list(nb, from, ray, first, nb) {
+            if must_list(nb, from, ray, first, nb) {
                 if cap <= count {
                     return Listing {
                         count,
@@ -152,10 +152,10 @@ pub fn list_from(
     bin: usize,
     out: &mut [u32],
 ) -> Listing
-    requires { ⌜ Part v nb nr (now octets) ⌝ }
+    requires { ⌜ CutData v nb nr (now octets) ⌝ }
     requires { ⌜ (v ≤ levelCount product) × (rightPoint nb nr ray bin ≡ true) ⌝ }
-    ensures { λ r. ⌜ r ≡ answerOf nr (length (now (out .entry))) (listed (scaleOf product t) v (now (octets .entry)) nb nr (ray * nb + bin)) ⌝ }
-    ensures { λ _. ⌜ now (out .exit) ≡ outOf (now (out .entry)) (listed (scaleOf product t) v (now (octets .entry)) nb nr (ray * nb + bin)) ⌝ }
+    ensures { λ r. ⌜ r ≡ answerOf nr (length (now (out .entry))) (stretchesFrom (kindByThreshold product t) v (now (octets .entry)) nb nr (ray * nb + bin)) ⌝ }
+    ensures { λ _. ⌜ now (out .exit) ≡ outOf (now (out .entry)) (stretchesFrom (kindByThreshold product t) v (now (octets .entry)) nb nr (ray * nb + bin)) ⌝ }
 {
     let kinds = values::kinds_by(product, t);
     list_by(octets, v, &kinds, nb, nr, ray * nb + bin, out)

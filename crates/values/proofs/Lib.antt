@@ -1,5 +1,5 @@
 pub mod Signed
-pub mod Listed
+pub mod Published
 pub mod Magnitude
 pub mod Ray
 pub mod Octets

@@ -54,5 +54,5 @@ high (negsuc k) f t = absurd (differ t)
     differ : true ≡ false → ⊥
     differ e = let z : _≡_ {A = ℕ} 0 1 = cc in omega arith
 
-pub above : (z : ℤ) → SFits w16 z → ltZ (wide z) (pos 0) ≡ false → High z (wide z)
-above z f t = subst (λ (w : ℤ). High z w) (sym (wide-is z f)) (high z f (ap (λ (w : ℤ). ltZ w (pos 0)) (sym (wide-is z f)) ∙ t))
+pub excess : (z : ℤ) → SFits w16 z → ltZ (wide z) (pos 0) ≡ false → High z (wide z)
+excess z f t = subst (λ (w : ℤ). High z w) (sym (wide-is z f)) (high z f (ap (λ (w : ℤ). ltZ w (pos 0)) (sym (wide-is z f)) ∙ t))

@@ -15,7 +15,7 @@ use Rattle.octets.specs.Octets.{same}
 use Rattle.octets.proofs.Same.{same-eq, same-refl}
 use Rattle.values.specs.Published.{tableOf}
 use Rattle.values.specs.Table.{signMagnitude, pairRight, octetsOf, tableOctets, tableRight}
-use Rattle.values.specs.Row.{Writable}
+use Rattle.values.specs.Row.{InTwoOctets}
 use Rattle.values.specs.declared.Product.{Product}
 use Rattle.values.specs.declared.Product.the-variants.{Reflectivity, Velocity}
 
@@ -88,17 +88,17 @@ abbrev writableAll : List ℤ → Bool
 writableAll [] = true
 writableAll (z ∷ zs) = cond (ltb (signMagnitude z) 65536) (writableAll zs) false
 
-writable : (zs : List ℤ) → writableAll zs ≡ true → Writable zs
+writable : (zs : List ℤ) → writableAll zs ≡ true → InTwoOctets zs
 unfolding signMagnitude
 writable [] e k = omega arith
 writable (z ∷ zs) e k = go (ltb (signMagnitude z) 65536) refl e (writable zs) k
   where
-    go : (b : Bool) → ltb (signMagnitude z) 65536 ≡ b → cond b (writableAll zs) false ≡ true → (writableAll zs ≡ true → Writable zs) → Writable (z ∷ zs)
+    go : (b : Bool) → ltb (signMagnitude z) 65536 ≡ b → cond b (writableAll zs) false ≡ true → (writableAll zs ≡ true → InTwoOctets zs) → InTwoOctets (z ∷ zs)
     go true h f rest zero = ltb-true (signMagnitude z) 65536 h
     go true h f rest (suc j) = rest f j
     go false h f rest j = absurd (false≢true f)
 
-pub tables-writable : (p : Product) → Writable (tableOf p)
+pub tables-writable : (p : Product) → InTwoOctets (tableOf p)
 unfolding tableOf signMagnitude
 tables-writable Reflectivity = writable (tableOf Reflectivity) refl
 tables-writable Velocity = writable (tableOf Velocity) refl

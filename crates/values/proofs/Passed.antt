@@ -7,35 +7,35 @@ use lib.ListN.{length, take, drop, length-drop}
 use lib.Seq.{take-all, drop-drop}
 use Rattle.runs.specs.Run.{levels}
 use Rattle.lent.specs.Lent.{between}
-use Rattle.runs.specs.Spot.{Holds}
-use Rattle.runs.specs.declared.Spot.{Spot}
-use Rattle.runs.proofs.Here.{stands-spot, here-inside}
+use Rattle.runs.specs.Holding.{Holds}
+use Rattle.runs.specs.declared.HoldingRun.{HoldingRun}
+use Rattle.runs.proofs.Here.{stands-holding, here-inside}
 use Rattle.values.specs.Published.{levelCount}
 use Rattle.values.specs.declared.Product.{Product}
 use Rattle.values.specs.Row.{Bins}
-use Rattle.values.proofs.Listed.{count-le}
+use Rattle.values.proofs.Published.{count-le}
 
 -- the greatest level of a product leaves runs a base
 pub base-low : (p : Product) (v : ℕ) → v ≤ levelCount p → v ≤ 253
 base-low p v h = omega (arith, h, count-le p)
 
-module _ (p : Product) (v a b : ℕ) (s : List ℕ) (marks values : ℕ) (g : Bins p v a b s marks values) (some : a < b) (spot : Spot) (h : Holds v s a spot) where
+module _ (p : Product) (v a b : ℕ) (s : List ℕ) (marks values : ℕ) (g : Bins p v a b s marks values) (some : a < b) (holding : HoldingRun) (h : Holds v s a holding) where
   more : a < length (levels v s)
   more = omega (arith, g .given)
 
-  pub at-inside : spot .at < length s
-  at-inside = here-inside v s (spot .at) (spot .bins) (stands-spot v s a spot more h) (omega (arith, more, h .before))
+  pub at-inside : holding .at < length s
+  at-inside = here-inside v s (holding .at) (holding .bins) (stands-holding v s a holding more h) (omega (arith, more, h .before))
 
   abbrev part : List ℕ
-  part = take (length s - spot .at) (drop (spot .at) s)
+  part = take (length s - holding .at) (drop (holding .at) s)
 
-  whole : levels v part ≡ drop (spot .bins) (levels v s)
-  whole = ap (levels v) (take-all (length s - spot .at) (drop (spot .at) s) (omega (arith, length-drop (spot .at) s))) ∙ sym (h .rest)
+  whole : levels v part ≡ drop (holding .bins) (levels v s)
+  whole = ap (levels v) (take-all (length s - holding .at) (drop (holding .at) s) (omega (arith, length-drop (holding .at) s))) ∙ sym (h .rest)
 
-  pub passed-asks : Bins p v (a - spot .bins) (b - spot .bins) part marks values
+  pub passed-asks : Bins p v (a - holding .bins) (b - holding .bins) part marks values
   passed-asks =
-      let all = take-all (length s - spot .at) (drop (spot .at) s) (omega (arith, length-drop (spot .at) s)) in
-      let left = ap length whole ∙ length-drop (spot .bins) (levels v s) in
+      let all = take-all (length s - holding .at) (drop (holding .at) s) (omega (arith, length-drop (holding .at) s)) in
+      let left = ap length whole ∙ length-drop (holding .bins) (levels v s) in
       record {
         low = g .low;
         opened = rw all (h .opened);
@@ -46,9 +46,9 @@ module _ (p : Product) (v a b : ℕ) (s : List ℕ) (marks values : ℕ) (g : Bi
         room-values = omega (arith, g .room-values, h .before, some);
       }
 
-  pub passed-gives : between (a - spot .bins) (b - spot .bins) (levels v part) ≡ between a b (levels v s)
+  pub passed-gives : between (a - holding .bins) (b - holding .bins) (levels v part) ≡ between a b (levels v s)
   passed-gives =
-      let span : (b - spot .bins) - (a - spot .bins) ≡ b - a = omega (arith, h .before, some) in
-      let from : spot .bins + (a - spot .bins) ≡ a = omega (arith, h .before) in
-      (λ i. take (span i) (drop (a - spot .bins) (whole i)))
-      ∙ ap (take (b - a)) (drop-drop (a - spot .bins) (spot .bins) (levels v s) ∙ ap (λ (n : ℕ). drop n (levels v s)) from)
+      let span : (b - holding .bins) - (a - holding .bins) ≡ b - a = omega (arith, h .before, some) in
+      let from : holding .bins + (a - holding .bins) ≡ a = omega (arith, h .before) in
+      (λ i. take (span i) (drop (a - holding .bins) (whole i)))
+      ∙ ap (take (b - a)) (drop-drop (a - holding .bins) (holding .bins) (levels v s) ∙ ap (λ (n : ℕ). drop n (levels v s)) from)

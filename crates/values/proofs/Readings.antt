@@ -18,7 +18,7 @@ use Rattle.octets.proofs.Laws.{be-one, be-split}
 use Rattle.values.specs.Published.{levelCount, published, tableOf}
 use Rattle.values.specs.Reading.{readingOf}
 use Rattle.values.specs.Table.{signMagnitude, octetsOf, tableOctets}
-use Rattle.values.proofs.Listed.{table-length, table-at, published-small}
+use Rattle.values.proofs.Published.{table-length, table-at, published-small}
 use Rattle.values.specs.declared.Product.{Product}
 use Rattle.values.specs.declared.Reading.{Reading}
 use Rattle.values.specs.declared.Reading.the-variants.{Missing, Number}

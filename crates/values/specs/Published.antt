@@ -32,11 +32,11 @@ published Reflectivity n = reflectivity n
 published Velocity n = velocity n
 
 -- k values of a rule, from level i on
-unfoldable pub listed : (ℕ → ℤ) → ℕ → ℕ → List ℤ
-listed f i zero = []
-listed f i (suc k) = f i ∷ listed f (suc i) k
+unfoldable pub valuesFrom : (ℕ → ℤ) → ℕ → ℕ → List ℤ
+valuesFrom f i zero = []
+valuesFrom f i (suc k) = f i ∷ valuesFrom f (suc i) k
 
 -- the published table: the values of levels 1 to M, in order
 unfoldable pub tableOf : Product → List ℤ
-unfolding published levelCount listed
-tableOf p = listed (published p) 1 (levelCount p)
+unfolding published levelCount valuesFrom
+tableOf p = valuesFrom (published p) 1 (levelCount p)

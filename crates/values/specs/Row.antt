@@ -22,8 +22,8 @@ numberedTo Missing lo hi = lo
 numberedTo (Number z) lo hi = hi
 
 -- each value has a form in 16 bits, sign and magnitude
-abbrev pub Writable : List ℤ → Type 0
-Writable zs = (k : ℕ) → signMagnitude (getD zs k (pos 0)) < 65536
+abbrev pub InTwoOctets : List ℤ → Type 0
+InTwoOctets zs = (k : ℕ) → signMagnitude (getD zs k (pos 0)) < 65536
 
 -- what reading the bins a up to b of the octets' levels asks: octets that open a run and give those bins, levels of the product, and room for the bins in
 -- both buffers

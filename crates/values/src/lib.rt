@@ -15,7 +15,7 @@ ghost use Rattle.values.specs.Reading.{readingOf, markOf, kindOf, KindsB
 ghost use Rattle.values.specs.Ray.{marksOf, valuesOf};
 ghost use Rattle.octets.specs.Octets.{same};
 ghost use Rattle.values.specs.Table.{signMagnitude, pairRight, octetsOf, tableRight};
-ghost use Rattle.values.specs.Row.{numberOf, numberedTo, Writable, Bins};
+ghost use Rattle.values.specs.Row.{numberOf, numberedTo, InTwoOctets, Bins};
 
 mod tables;
 
@@ -174,8 +174,8 @@ fn readings_in(
         let to = bins + run.len;
         put_reading(
             reading,
-            runs::above(bins, a),
-            runs::above(to, a),
+            runs::excess(bins, a),
+            runs::excess(to, a),
             marks,
             values,
         );
@@ -237,9 +237,9 @@ pub fn readings_into(
     ensures { λ _. ⌜ now (marks .exit) ≡ marksOf product (between a b (levels v (now (octets .entry)))) (now (marks .entry)) ⌝ }
     ensures { λ _. ⌜ now (values .exit) ≡ valuesOf product (between a b (levels v (now (octets .entry)))) (now (values .entry)) ⌝ }
 {
-    let spot = runs::seek(octets, v, a);
-    let at = spot.at;
-    let passed = spot.bins;
+    let holding = runs::seek(octets, v, a);
+    let at = holding.at;
+    let passed = holding.bins;
     readings_from(
         product,
         &octets[at..],
@@ -275,7 +275,7 @@ fn pair_right(high: u8, low: u8, value: i16) -> bool
 
 // Whether octets are a table's, octet for octet. All pairs are looked at, whatever the first come to.
 fn right_in(octets: &[u8], table: &[i16]) -> bool
-    requires { ⌜ Writable (now table) ⌝ }
+    requires { ⌜ InTwoOctets (now table) ⌝ }
     ensures { λ r. ⌜ r ≡ same (now (octets .entry)) (octetsOf (now (table .entry))) ⌝ }
 {
     let m = table.len();

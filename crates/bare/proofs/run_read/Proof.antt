@@ -45,8 +45,8 @@ returns-4 c = let a = c .before .before .before .before .before .before .before 
 exact : (c : tie.After-enum-told) → gives (c .before .before .before .before .before .before .before .before .args .v) (c .before .before .before .before .before .before .before .before .args .n) (c .before .before .before .before .before .before .before .before .args .octets .now) ≡ true
 exact c = told _ (sym (c .enum-told .given .1) ∙ c .before .before .scan-runs .ensures)
 
-fill-requires : tie.Need-fill-requires
-fill-requires c κs = let a = c .before .before .before .before .before .before .before .before .before .args in
+levels-into-requires : tie.Need-levels-into-requires
+levels-into-requires c κs = let a = c .before .before .before .before .before .before .before .before .before .args in
     let g = gives-true (a .v) (a .n) (a .octets .now) (exact (c .before)) in
     ((omega arith, g .0, omega arith), (omega arith, omega (arith, g .1), omega arith))
 
@@ -60,7 +60,7 @@ returns-5 c = let a = c .before .before .before .before .before .before .before 
     let g = gives-true (a .v) (a .n) (a .octets .now) yes in
     record {
       answered = simp (le-ltb _ _ (c .before .before .before .before .before .before .before .if3 .left), le-ltb _ _ (c .before .before .before .before .before .before .before .before .if2 .left), le-ltb _ _ (c .before .before .before .before .before .before .before .before .before .if1 .left), yes);
-      held = c .before .before .fill .ensures ∙ ap (λ (l : List ℕ). front l (a .out .now)) (take-all (a .n - 0) (levels (a .v) (a .octets .now)) (omega (arith, g .1)));
+      held = c .before .before .levels-into .ensures ∙ ap (λ (l : List ℕ). front l (a .out .now)) (take-all (a .n - 0) (levels (a .v) (a .octets .now)) (omega (arith, g .1)));
     }
 
 pub run-read-spec : {M : Type 1} → statement M
@@ -74,6 +74,6 @@ run-read-spec =
     enum-told
     enum-told-2
     returns-4
-    fill-requires
+    levels-into-requires
     same-length
     returns-5)

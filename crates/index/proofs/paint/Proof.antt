@@ -75,15 +75,15 @@ run-upto-requires c κs = let h = c .before .before .before in let s = start h i
 add-to : tie.Need-add-to Inv-loop μ-loop
 add-to c = record { fits = omega (arith, past (c .before) .1, c .before .before .before .before .before .before .before .before .pre .0 .1) }
 
-above-requires : tie.Need-above-requires Inv-loop μ-loop
-above-requires c κs = search needs
+excess-requires : tie.Need-excess-requires Inv-loop μ-loop
+excess-requires c κs = search needs
 
-above-requires-2 : tie.Need-above-requires-2 Inv-loop μ-loop
-above-requires-2 c κs = search needs
+excess-requires-2 : tie.Need-excess-requires-2 Inv-loop μ-loop
+excess-requires-2 c κs = search needs
 
 stamp-requires : tie.Need-stamp-requires Inv-loop μ-loop
 stamp-requires c κs = let p = past (c .before .before .before .before) in let h = c .before .before .before .before .before .before .before .before in
-    (omega (arith, c .before .above .ensures, c .above2 .ensures, p .0), omega (arith, c .above2 .ensures, p .1, size h, start h .pre .1 .1))
+    (omega (arith, c .before .excess .ensures, c .excess2 .ensures, p .0), omega (arith, c .excess2 .ensures, p .1, size h, start h .pre .1 .1))
 
 loop-less : tie.Need-loop-less Inv-loop μ-loop
 loop-less c = omega (arith, past (c .before .before .before .before .before .before .before) .0, c .before .before .before .before .before .before .before .before .before .before .loop-test .taken)
@@ -95,8 +95,8 @@ loop-again c = let h = c .before .before .before .before .before .before .before
     let some = more h want (c .before .before .before .before .before .before .before .before .before .if1 .left) in
     let len = runLen (s .args .v) (s .args .octets .now) (l .at) in
     let x = getD (s .args .octets .now) (l .at) 0 in
-    let lo = c .before .before .before .before .above .ensures in
-    let hi = c .before .before .before .above2 .ensures in (
+    let lo = c .before .before .before .before .excess .ensures in
+    let hi = c .before .before .before .excess2 .ensures in (
       p .1,
       p .2,
       p .3,
@@ -127,8 +127,8 @@ paint-spec =
     sub-run-upto
     run-upto-requires
     add-to
-    above-requires
-    above-requires-2
+    excess-requires
+    excess-requires-2
     stamp-requires
     loop-less
     loop-again

@@ -13,14 +13,14 @@ mul-k c = search needs
 slice-aggregate-put-named : tie.Need-slice-aggregate-put-named
 slice-aggregate-put-named c = search needs
 
-mul-wide : tie.Need-mul-wide
-mul-wide c = search needs
+mul-as-usize : tie.Need-mul-as-usize
+mul-as-usize c = search needs
 
-shared-slice-read-wide : tie.Need-shared-slice-read-wide
-shared-slice-read-wide c = search needs
+shared-slice-read-as-usize : tie.Need-shared-slice-read-as-usize
+shared-slice-read-as-usize c = search needs
 
-wide-requires : tie.Need-wide-requires
-wide-requires c κs = search needs
+as-usize-requires : tie.Need-as-usize-requires
+as-usize-requires c κs = search needs
 
 put-named-requires : tie.Need-put-named-requires
 put-named-requires c κs = search needs
@@ -28,17 +28,17 @@ put-named-requires c κs = search needs
 slice-aggregate-put-named-2 : tie.Need-slice-aggregate-put-named-2
 slice-aggregate-put-named-2 c = search needs
 
-add-wide : tie.Need-add-wide
-add-wide c = search needs
+add-as-usize : tie.Need-add-as-usize
+add-as-usize c = search needs
 
-mul-wide-2 : tie.Need-mul-wide-2
-mul-wide-2 c = search needs
+mul-as-usize-2 : tie.Need-mul-as-usize-2
+mul-as-usize-2 c = search needs
 
-shared-slice-read-wide-2 : tie.Need-shared-slice-read-wide-2
-shared-slice-read-wide-2 c = search needs
+shared-slice-read-as-usize-2 : tie.Need-shared-slice-read-as-usize-2
+shared-slice-read-as-usize-2 c = search needs
 
-wide-requires-2 : tie.Need-wide-requires-2
-wide-requires-2 c κs = search needs
+as-usize-requires-2 : tie.Need-as-usize-requires-2
+as-usize-requires-2 c κs = search needs
 
 put-named-requires-2 : tie.Need-put-named-requires-2
 put-named-requires-2 c κs = search needs
@@ -46,17 +46,17 @@ put-named-requires-2 c κs = search needs
 slice-aggregate-put-named-3 : tie.Need-slice-aggregate-put-named-3
 slice-aggregate-put-named-3 c = search needs
 
-add-wide-2 : tie.Need-add-wide-2
-add-wide-2 c = search needs
+add-as-usize-2 : tie.Need-add-as-usize-2
+add-as-usize-2 c = search needs
 
-mul-wide-3 : tie.Need-mul-wide-3
-mul-wide-3 c = search needs
+mul-as-usize-3 : tie.Need-mul-as-usize-3
+mul-as-usize-3 c = search needs
 
-shared-slice-read-wide-3 : tie.Need-shared-slice-read-wide-3
-shared-slice-read-wide-3 c = search needs
+shared-slice-read-as-usize-3 : tie.Need-shared-slice-read-as-usize-3
+shared-slice-read-as-usize-3 c = search needs
 
-wide-requires-3 : tie.Need-wide-requires-3
-wide-requires-3 c κs = search needs
+as-usize-requires-3 : tie.Need-as-usize-requires-3
+as-usize-requires-3 c κs = search needs
 
 put-named-requires-3 : tie.Need-put-named-requires-3
 put-named-requires-3 c κs = search needs
@@ -83,7 +83,7 @@ returns c = let d = c .before .before .before .before .before .before .before in
     let s = a .before .before .before .before .before .before .before in
     let k = c .before .before .put-kind in (
       entry-put (entryIn (s .args .words .now) (s .args .i)) (a .put-named .ensures .0) (b .put-named2 .ensures .0) (d .put-named3 .ensures .0) (k .ensures .0)
-          (a .before .wide .ensures, b .before .wide2 .ensures, d .before .wide3 .ensures, refl),
+          (a .before .as-usize .ensures, b .before .as-usize2 .ensures, d .before .as-usize3 .ensures, refl),
       omega (arith, a .put-named .ensures .1, b .put-named2 .ensures .1, d .put-named3 .ensures .1, k .ensures .1),
     )
 
@@ -93,21 +93,21 @@ put-entry-spec =
     (tie.spec
     mul-k
     slice-aggregate-put-named
-    mul-wide
-    shared-slice-read-wide
-    wide-requires
+    mul-as-usize
+    shared-slice-read-as-usize
+    as-usize-requires
     put-named-requires
     slice-aggregate-put-named-2
-    add-wide
-    mul-wide-2
-    shared-slice-read-wide-2
-    wide-requires-2
+    add-as-usize
+    mul-as-usize-2
+    shared-slice-read-as-usize-2
+    as-usize-requires-2
     put-named-requires-2
     slice-aggregate-put-named-3
-    add-wide-2
-    mul-wide-3
-    shared-slice-read-wide-3
-    wide-requires-3
+    add-as-usize-2
+    mul-as-usize-3
+    shared-slice-read-as-usize-3
+    as-usize-requires-3
     put-named-requires-3
     add-put-kind
     mul-put-kind

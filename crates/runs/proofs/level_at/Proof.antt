@@ -2,7 +2,7 @@
 use mathlib.Core.Path.{sym}
 use native.Mathlib.Omega.{arith}
 use borrow.Author.Needs.{needs}
-use Rattle.runs.proofs.Here.{Stands, stands-spot, here-inside, here-level}
+use Rattle.runs.proofs.Here.{Stands, stands-holding, here-inside, here-level}
 use Rattle.runs.proofs.level_at.Statement.{statement}
 use Rattle.runs.proofs.level_at.Tie as tie
 
@@ -10,7 +10,7 @@ seek-requires : tie.Need-seek-requires
 seek-requires c κs = search needs
 
 stands : (c : tie.After-seek) → let s = c .before .before .args in Stands (s .v) (s .octets .now) (c .seek .result .at) (c .seek .result .bins)
-stands c = let s = c .before .before in stands-spot (s .args .v) (s .args .octets .now) (s .args .a) (c .seek .result) (s .pre .1) (c .seek .ensures)
+stands c = let s = c .before .before in stands-holding (s .args .v) (s .args .octets .now) (s .args .a) (c .seek .result) (s .pre .1) (c .seek .ensures)
 
 shared-slice-read-result : tie.Need-shared-slice-read-result
 shared-slice-read-result c = let s = c .before .before .before in

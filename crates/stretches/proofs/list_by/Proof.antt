@@ -9,7 +9,7 @@ use lib.ListN.{length, getD}
 use Rattle.runs.specs.Run.{levels}
 use Rattle.runs.proofs.Here.{gives-true}
 use Rattle.stretches.specs.Stretch.{perEntry}
-use Rattle.stretches.specs.Call.{scaleBy, listed}
+use Rattle.stretches.specs.Call.{kindByTable, stretchesFrom}
 use Rattle.stretches.proofs.Going.{next-ray, promised, told, same-size, Going, going-start, ray-le, run-inside, run-fits, changing, going-changed, going-on, ending, going-ended, due, due-start, ended, passed, wrote, stuck}
 use Rattle.stretches.proofs.list_by.Statement.{statement}
 use Rattle.stretches.proofs.list_by.Tie as tie
@@ -17,7 +17,7 @@ use Rattle.stretches.proofs.list_by.Tie as tie
 -- the inner loop: what is due is what was due as it began
 abbrev Inv-loop2 : tie.InvT-loop2
 Inv-loop2 octets v kinds nb nr from out₀ cap at ray₀ bin₀ first₀ held count₀ level kind out ray bin first count =
-    Going (scaleBy kinds) v nb nr octets at ray bin first held × (due (scaleBy kinds) v nb nr octets from cap out₀ count₀ ray₀ first₀ ≡ due (scaleBy kinds) v nb nr octets from cap out count ray first)
+    Going (kindByTable kinds) v nb nr octets at ray bin first held × (due (kindByTable kinds) v nb nr octets from cap out₀ count₀ ray₀ first₀ ≡ due (kindByTable kinds) v nb nr octets from cap out count ray first)
 
 abbrev μ-loop2 : tie.MeasureT-loop2
 μ-loop2 octets v kinds nb nr from out₀ cap at ray₀ bin₀ first₀ held count₀ level kind out ray bin first count = bin
@@ -25,7 +25,7 @@ abbrev μ-loop2 : tie.MeasureT-loop2
 -- the outer loop: what is in hand ends within the ray, and what is due is what is promised
 abbrev Inv-loop : tie.InvT-loop
 Inv-loop octets v kinds nb nr from out₀ cap at₀ ray₀ bin₀ first₀ held₀ count₀ out at ray bin first held count =
-    Going (scaleBy kinds) v nb nr octets at ray bin first held × (bin < nb) × (promised nr out₀ (listed (scaleBy kinds) v octets nb nr from) ≡ due (scaleBy kinds) v nb nr octets from cap out count ray first)
+    Going (kindByTable kinds) v nb nr octets at ray bin first held × (bin < nb) × (promised nr out₀ (stretchesFrom (kindByTable kinds) v octets nb nr from) ≡ due (kindByTable kinds) v nb nr octets from cap out count ray first)
 
 abbrev μ-loop : tie.MeasureT-loop
 μ-loop octets v kinds nb nr from out₀ cap at₀ ray₀ bin₀ first₀ held₀ count₀ out at ray bin first held count = length octets - at
@@ -42,12 +42,12 @@ few s = mul-le-mul {n₁ = s .args .nr} {m₁ = s .args .nb} {n₂ = 1024} {m₂
 
 -- where reading stands, and what is due, for what was lent
 abbrev Goes : Start → ℕ → ℕ → ℕ → ℕ → ℕ → Type 0
-Goes s = Going (scaleBy (s .args .kinds .now)) (s .args .v) (s .args .nb) (s .args .nr) (s .args .octets .now)
+Goes s = Going (kindByTable (s .args .kinds .now)) (s .args .v) (s .args .nb) (s .args .nr) (s .args .octets .now)
 
 abbrev Due : Start → List ℕ → ℕ → ℕ → ℕ → Type 0
 Due s out count ray first =
-    promised (s .args .nr) (s .args .out .now) (listed (scaleBy (s .args .kinds .now)) (s .args .v) (s .args .octets .now) (s .args .nb) (s .args .nr) (s .args .from))
-    ≡ due (scaleBy (s .args .kinds .now)) (s .args .v) (s .args .nb) (s .args .nr) (s .args .octets .now) (s .args .from) (length (s .args .out .now) / perEntry) out count ray first
+    promised (s .args .nr) (s .args .out .now) (stretchesFrom (kindByTable (s .args .kinds .now)) (s .args .v) (s .args .octets .now) (s .args .nb) (s .args .nr) (s .args .from))
+    ≡ due (kindByTable (s .args .kinds .now)) (s .args .v) (s .args .nb) (s .args .nr) (s .args .octets .now) (s .args .from) (length (s .args .out .now) / perEntry) out count ray first
 
 -- the way back to each place from the test of the kinds: an added call changes these lines alone
 abbrev run : (c : tie.After-kind Inv-loop2 μ-loop2 Inv-loop μ-loop) → tie.After-known-run Inv-loop2 μ-loop2 Inv-loop μ-loop
@@ -107,8 +107,8 @@ mul-kind c = omega (arith, c .before .shared-slice-known2 .given (c .before .bef
 element-copy-out-kind : tie.Need-element-copy-out-kind Inv-loop2 μ-loop2 Inv-loop μ-loop
 element-copy-out-kind c = omega (arith, c .before .shared-slice-known2 .given (c .before .before .before .loop .at))
 
-to-list-requires : tie.Need-to-list-requires Inv-loop2 μ-loop2 Inv-loop μ-loop
-to-list-requires c κs = small (start (c .before)) (head (c .before) .loop .inv .0)
+must-list-requires : tie.Need-must-list-requires Inv-loop2 μ-loop2 Inv-loop μ-loop
+must-list-requires c κs = small (start (c .before)) (head (c .before) .loop .inv .0)
 
 same-length : tie.Need-same-length Inv-loop2 μ-loop2 Inv-loop μ-loop
 same-length c = same-size _ _ _ _ _ _ _ (head (c .before .before .before .before) .loop .inv .2)
@@ -116,7 +116,7 @@ same-length c = same-size _ _ _ _ _ _ _ (head (c .before .before .before .before
 returns : tie.Need-returns Inv-loop2 μ-loop2 Inv-loop μ-loop
 returns c = let k = c .before .before .before .before in
     let i = head k .loop .inv in
-    told _ (i .2 ∙ stuck _ _ _ _ _ _ _ (changing _ _ _ _ _ (whole (start k)) (i .0) (i .1) (turn k .loop-test .taken) (c .before .before .before .if1 .taken)) (c .before .before .to-list .ensures) (c .before .if2 .taken) _ _ (c .if3 .taken))
+    told _ (i .2 ∙ stuck _ _ _ _ _ _ _ (changing _ _ _ _ _ (whole (start k)) (i .0) (i .1) (turn k .loop-test .taken) (c .before .before .before .if1 .taken)) (c .before .before .must-list .ensures) (c .before .if2 .taken) _ _ (c .if3 .taken))
 
 sub-put : tie.Need-sub-put Inv-loop2 μ-loop2 Inv-loop μ-loop
 sub-put c = head (c .before .before .before .before .before) .loop .inv .0 .first-le
@@ -145,15 +145,15 @@ loop-less c = let k = c .before .before .before .before in
 loop-again : tie.Need-loop-again Inv-loop2 μ-loop2 Inv-loop μ-loop
 loop-again c = (c .before .loop2 .inv .0, c .loop2-test .left, inner (c .before))
 
-to-list-requires-2 : tie.Need-to-list-requires-2 Inv-loop2 μ-loop2 Inv-loop μ-loop
-to-list-requires-2 c κs = small (start (c .before .before .before .before)) (c .before .loop2 .inv .0)
+must-list-requires-2 : tie.Need-must-list-requires-2 Inv-loop2 μ-loop2 Inv-loop μ-loop
+must-list-requires-2 c κs = small (start (c .before .before .before .before)) (c .before .loop2 .inv .0)
 
 same-length-2 : tie.Need-same-length-2 Inv-loop2 μ-loop2 Inv-loop μ-loop
 same-length-2 c = same-size _ _ _ _ _ _ _ (inner (c .before .before .before .before))
 
 returns-2 : tie.Need-returns-2 Inv-loop2 μ-loop2 Inv-loop μ-loop
 returns-2 c = let h = c .before .before .before .before in
-    told _ (inner h ∙ stuck _ _ _ _ _ _ _ (ending _ _ _ _ _ (h .loop2 .inv .0) (c .before .before .before .loop2-test .taken)) (c .before .before .to-list2 .ensures) (c .before .if4 .taken) _ _ (c .if5 .taken))
+    told _ (inner h ∙ stuck _ _ _ _ _ _ _ (ending _ _ _ _ _ (h .loop2 .inv .0) (c .before .before .before .loop2-test .taken)) (c .before .before .must-list2 .ensures) (c .before .if4 .taken) _ _ (c .if5 .taken))
 
 sub-put-2 : tie.Need-sub-put-2 Inv-loop2 μ-loop2 Inv-loop μ-loop
 sub-put-2 c = omega (arith, c .before .before .before .before .before .before .loop2 .inv .0 .first-lt)
@@ -178,8 +178,8 @@ loop2-again c = let h = c .before .before .before in
     let over = c .before .before .loop2-test .taken in (
       going-ended _ _ _ _ _ g over,
       ⊎-elim
-          (λ w. rw (w .8, w .9, next-ray) (h .loop2 .inv .1 ∙ wrote _ _ _ _ _ _ _ (ending _ _ _ _ _ g over) (c .before .to-list2 .ensures) (w .0 .taken) _ _ _ (w .1 .left) (w .4 .ensures)))
-          (λ w. rw (w .1, w .2, next-ray) (h .loop2 .inv .1 ∙ passed _ _ _ _ _ _ _ (ending _ _ _ _ _ g over) (c .before .to-list2 .ensures) (w .0 .left) _ _))
+          (λ w. rw (w .8, w .9, next-ray) (h .loop2 .inv .1 ∙ wrote _ _ _ _ _ _ _ (ending _ _ _ _ _ g over) (c .before .must-list2 .ensures) (w .0 .taken) _ _ _ (w .1 .left) (w .4 .ensures)))
+          (λ w. rw (w .1, w .2, next-ray) (h .loop2 .inv .1 ∙ passed _ _ _ _ _ _ _ (ending _ _ _ _ _ g over) (c .before .must-list2 .ensures) (w .0 .left) _ _))
           (c .if4 .came),
     )
 
@@ -203,7 +203,7 @@ list-by-spec =
     cast-kind
     mul-kind
     element-copy-out-kind
-    to-list-requires
+    must-list-requires
     same-length
     returns
     sub-put
@@ -213,7 +213,7 @@ list-by-spec =
     loop2-holds
     loop-less
     loop-again
-    to-list-requires-2
+    must-list-requires-2
     same-length-2
     returns-2
     sub-put-2

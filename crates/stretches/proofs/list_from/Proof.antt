@@ -9,7 +9,7 @@ use denote.Ref.{now}
 use Rattle.kinds.specs.KindTable.{kindNumber}
 use Rattle.values.specs.Reading.{readingOf, kindOf, KindsBy}
 use Rattle.stretches.proofs.Points.{point-small}
-use Rattle.stretches.proofs.Scales.{table-listed}
+use Rattle.stretches.proofs.SameKinds.{table-listed}
 use borrow.Author.Needs.{needs}
 use Rattle.stretches.proofs.list_from.Statement.{statement}
 use Rattle.stretches.proofs.list_from.Tie as tie

@@ -13,7 +13,7 @@ use mir.Syntax.{w32}
 use mir.Val.{toZ, ofZ}
 use mir.Facts.{toZ-ofZ}
 use Rattle.values.specs.Reading.{readingOf, kindOf}
-use Rattle.values.proofs.Listed.{count-le, table-length}
+use Rattle.values.proofs.Published.{count-le, table-length}
 use Rattle.values.proofs.kinds_in.Statement.{statement}
 use Rattle.values.proofs.kinds_in.Tie as tie
 

@@ -94,18 +94,18 @@ run-upto-requires c κs = let h = c .before .before .before in let s = start h i
 add-to : tie.Need-add-to Inv-loop μ-loop
 add-to c = record { fits = omega (arith, past (c .before) .1, start (c .before .before .before .before .before) .pre .1 .near) }
 
-above-requires : tie.Need-above-requires Inv-loop μ-loop
-above-requires c κs = search needs
+excess-requires : tie.Need-excess-requires Inv-loop μ-loop
+excess-requires c κs = search needs
 
-above-requires-2 : tie.Need-above-requires-2 Inv-loop μ-loop
-above-requires-2 c κs = search needs
+excess-requires-2 : tie.Need-excess-requires-2 Inv-loop μ-loop
+excess-requires-2 c κs = search needs
 
 put-reading-requires : tie.Need-put-reading-requires Inv-loop μ-loop
 put-reading-requires c κs =
     let h = c .before .before .before .before .before .before .before .before .before in
     let s = start h in
-    let low = c .before .before .before .above .ensures in
-    let high = c .before .before .above2 .ensures in
+    let low = c .before .before .before .excess .ensures in
+    let high = c .before .before .excess2 .ensures in
     let p = past (c .before .before .before .before .before) in (
       omega (arith, low, high, p .0),
       omega (arith, high, p .1, size-marks h, s .pre .1 .room-marks),
@@ -129,11 +129,11 @@ loop-again c =
     let had = between (s .args .a) (l .bins) (row h) in
     let k = (to - s .args .a) - (l .bins - s .args .a) in
     let size : length had ≡ l .bins - s .args .a = length-between (row h) (s .args .a) (l .bins) (l .inv .0 .1) in
-    let lo : c .before .before .before .before .before .before .before .above .result ≡ length had = c .before .before .before .before .before .before .before .above .ensures ∙ sym size in
+    let lo : c .before .before .before .before .before .before .before .excess .result ≡ length had = c .before .before .before .before .before .before .before .excess .ensures ∙ sym size in
     let on : l .bins ≤ to = omega arith in
     let whole : length had + k ≡ to - s .args .a = ap (λ (n : ℕ). n + k) size ∙ joined (s .args .a) (l .bins) to on in
-    let hi : c .before .before .before .before .before .before .above2 .result ≡ length had + k = c .before .before .before .before .before .before .above2 .ensures ∙ sym whole in
-    let many : c .before .before .before .before .before .before .above2 .result - c .before .before .before .before .before .before .before .above .result ≡ k = omega (arith, lo, hi) in
+    let hi : c .before .before .before .before .before .before .excess2 .result ≡ length had + k = c .before .before .before .before .before .before .excess2 .ensures ∙ sym whole in
+    let many : c .before .before .before .before .before .before .excess2 .result - c .before .before .before .before .before .before .before .excess .result ≡ k = omega (arith, lo, hi) in
     let reading = c .before .before .before .before .before .before .before .before .before .before .reading-in .ensures in
     let grown = between-more (row h) (drop (l .bins + len) (row h)) (s .args .marks .now) (s .args .a) (l .bins) to len x on (here-run (s .args .v) (s .args .octets .now) (l .at) (l .bins) (l .inv .0 .2 want) (more h want)) (omega (arith, r .ensures .0)) in
     let room : length had + k ≤ s .args .b - s .args .a = within (s .args .a) to (s .args .b) (length had + k) whole (p .1) in (
@@ -175,8 +175,8 @@ readings-in-spec =
     sub-run-upto
     run-upto-requires
     add-to
-    above-requires
-    above-requires-2
+    excess-requires
+    excess-requires-2
     put-reading-requires
     loop-less
     loop-again

@@ -4,7 +4,7 @@ use Prim.Native.Nat.{_+_}
 use native.Mathlib.Omega.{arith}
 use lib.IntN.{ℤ, natAbs}
 use Rattle.values.proofs.Signed.{wide-fits}
-use Rattle.values.proofs.Magnitude.{below, above}
+use Rattle.values.proofs.Magnitude.{below, excess}
 use Rattle.values.proofs.sign_magnitude.Statement.{statement}
 use Rattle.values.proofs.sign_magnitude.Tie as tie
 
@@ -27,10 +27,10 @@ returns : tie.Need-returns
 returns c = let b = below (c .before .args .value) (c .before .fits .value) (c .if1 .taken) in ap (λ (z : ℤ). 32768 + natAbs z) (b .1) ∙ b .3
 
 cast-result-3 : tie.Need-cast-result-3
-cast-result-3 c = let b = above (c .before .args .value) (c .before .fits .value) (c .if1 .left) in (b .0, record { fits = omega (arith, b .2, c .before .pre) })
+cast-result-3 c = let b = excess (c .before .args .value) (c .before .fits .value) (c .if1 .left) in (b .0, record { fits = omega (arith, b .2, c .before .pre) })
 
 returns-2 : tie.Need-returns-2
-returns-2 c = above (c .before .args .value) (c .before .fits .value) (c .if1 .left) .2
+returns-2 c = excess (c .before .args .value) (c .before .fits .value) (c .if1 .left) .2
 
 pub sign-magnitude-spec : {M : Type 1} → statement M
 sign-magnitude-spec =

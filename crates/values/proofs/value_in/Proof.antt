@@ -2,7 +2,7 @@
 use Prim.Native.Nat.{_-_}
 use lib.ListN.{getD}
 use lib.IntN.{pos}
-use Rattle.values.proofs.Listed.{table-within, value-read}
+use Rattle.values.proofs.Published.{table-within, value-read}
 use Rattle.values.proofs.Signed.{wide-fits}
 use borrow.Author.Needs.{needs}
 use Rattle.values.proofs.value_in.Statement.{statement}

@@ -11,8 +11,8 @@ use Rattle.runs.proofs.Bins.{levels-nil, levels-open, levels-digit}
 use Rattle.values.specs.Published.{levelCount}
 use Rattle.values.specs.Reading.{KindsBy}
 use Rattle.values.specs.declared.Product.{Product}
-use Rattle.stretches.specs.Stretch.{Scale, kindAt, starts, listFrom, stretchesOf, past}
-use Rattle.stretches.specs.Call.{scaleOf, scaleBy, listed}
+use Rattle.stretches.specs.Stretch.{KindOfLevel, kindAt, starts, listFrom, stretchesOf, fromPlace}
+use Rattle.stretches.specs.Call.{kindByThreshold, kindByTable, stretchesFrom}
 
 -- ---- no level is over V
 append-le : (v : ℕ) (a b : List ℕ) → ((k : ℕ) → getD a k 0 ≤ v) → ((k : ℕ) → getD b k 0 ≤ v) → (k : ℕ) → getD (a ++ b) k 0 ≤ v
@@ -33,13 +33,13 @@ level-le v (o ∷ xs) k =
     (λ h. rw (levels-digit v o xs h) (level-le v xs k))
 
 -- ---- scales that agree
-pub same-stretches : (sc sc′ : Scale) (ls : List ℕ) (nb m : ℕ) → ((p : ℕ) → kindAt sc ls p ≡ kindAt sc′ ls p) → stretchesOf sc ls nb m ≡ stretchesOf sc′ ls nb m
+pub same-stretches : (sc sc′ : KindOfLevel) (ls : List ℕ) (nb m : ℕ) → ((p : ℕ) → kindAt sc ls p ≡ kindAt sc′ ls p) → stretchesOf sc ls nb m ≡ stretchesOf sc′ ls nb m
 same-stretches sc sc′ ls nb m h = λ i. listFrom (starts (λ p. h p i) nb) (λ p n. record { ray = p / nb; first = p % nb; len = n; kind = h p i }) 0 m
 
-pub same-listed : (sc sc′ : Scale) (v : ℕ) (xs : List ℕ) (nb nr q : ℕ) → ((l : ℕ) → l ≤ v → sc .kind l ≡ sc′ .kind l) → listed sc v xs nb nr q ≡ listed sc′ v xs nb nr q
-unfolding listed
-same-listed sc sc′ v xs nb nr q h = ap (past nb q) (same-stretches sc sc′ (levels v xs) nb (nr * nb) (λ p. h (getD (levels v xs) p 0) (level-le v xs p)))
+pub same-listed : (sc sc′ : KindOfLevel) (v : ℕ) (xs : List ℕ) (nb nr q : ℕ) → ((l : ℕ) → l ≤ v → sc .kind l ≡ sc′ .kind l) → stretchesFrom sc v xs nb nr q ≡ stretchesFrom sc′ v xs nb nr q
+unfolding stretchesFrom
+same-listed sc sc′ v xs nb nr q h = ap (fromPlace nb q) (same-stretches sc sc′ (levels v xs) nb (nr * nb) (λ p. h (getD (levels v xs) p 0) (level-le v xs p)))
 
 pub table-listed : (p : Product) (t : ℤ) (ks : List ℕ) (v : ℕ) (xs : List ℕ) (nb nr q : ℕ) → KindsBy p t ks → v ≤ levelCount p
-    → listed (scaleBy ks) v xs nb nr q ≡ listed (scaleOf p t) v xs nb nr q
-table-listed p t ks v xs nb nr q h l = same-listed (scaleBy ks) (scaleOf p t) v xs nb nr q (λ x a. h x (omega arith))
+    → stretchesFrom (kindByTable ks) v xs nb nr q ≡ stretchesFrom (kindByThreshold p t) v xs nb nr q
+table-listed p t ks v xs nb nr q h l = same-listed (kindByTable ks) (kindByThreshold p t) v xs nb nr q (λ x a. h x (omega arith))

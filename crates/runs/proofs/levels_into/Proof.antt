@@ -1,4 +1,4 @@
--- `fill` meets its contract: from the spot of bin a on, the bins of the runs read so far, up to b, are in front.
+-- `levels_into` meets its contract: from the spot of bin a on, the bins of the runs read so far, up to b, are in front.
 use Prim.Native.Nat.{ℕ, _+_, _-_, _<_, min}
 use mathlib.Core.Path.{_≡_, ap, _∙_}
 use mathlib.Core.List.{List}
@@ -7,10 +7,10 @@ use lib.ListN.{length, getD, drop, replicate}
 use Rattle.runs.specs.Run.{levels, runLen}
 use Rattle.lent.specs.Lent.{placed, between, front}
 use Rattle.lent.proofs.Lent.{painted, front-none, length-between, length-front}
-use Rattle.runs.proofs.Here.{Stands, stands-spot, here-inside, here-run, here-known, here-next}
+use Rattle.runs.proofs.Here.{Stands, stands-holding, here-inside, here-run, here-known, here-next}
 use borrow.Author.Needs.{needs}
-use Rattle.runs.proofs.fill.Statement.{statement}
-use Rattle.runs.proofs.fill.Tie as tie
+use Rattle.runs.proofs.levels_into.Statement.{statement}
+use Rattle.runs.proofs.levels_into.Tie as tie
 
 abbrev Inv-loop : tie.InvT-loop
 Inv-loop octets v a b out₀ at₀ bins₀ out at bins = Stands v octets at bins × (out ≡ front (between a (min bins b) (levels v octets)) out₀)
@@ -52,7 +52,7 @@ seek-requires c κs = let p = c .before .before .before .pre in
 loop-holds : tie.Need-loop-holds Inv-loop μ-loop
 loop-holds c = let s = c .before .before .before .before in
     let h = c .seek .ensures in (
-      stands-spot (s .args .v) (s .args .octets .now) (s .args .a) (c .seek .result) (omega (arith, c .before .if1 .left, s .pre .1 .1)) h,
+      stands-holding (s .args .v) (s .args .octets .now) (s .args .a) (c .seek .result) (omega (arith, c .before .if1 .left, s .pre .1 .1)) h,
       front-none (drop (s .args .a) (levels (s .args .v) (s .args .octets .now))) (s .args .out .now) (min (c .seek .result .bins) (s .args .b) - s .args .a) (omega (arith, h .before)),
     )
 
@@ -69,20 +69,20 @@ known-run-requires c κs = let h = c .before .before in
 add-end : tie.Need-add-end Inv-loop μ-loop
 add-end c = record { fits = omega (arith, past (c .before) .1 .within, start (c .before .before .before .before) .pre .0 .2) }
 
-above-requires : tie.Need-above-requires Inv-loop μ-loop
-above-requires c κs = search needs
+excess-requires : tie.Need-excess-requires Inv-loop μ-loop
+excess-requires c κs = search needs
 
 lesser-requires : tie.Need-lesser-requires Inv-loop μ-loop
 lesser-requires c κs = search needs
 
-above-requires-2 : tie.Need-above-requires-2 Inv-loop μ-loop
-above-requires-2 c κs = search needs
+excess-requires-2 : tie.Need-excess-requires-2 Inv-loop μ-loop
+excess-requires-2 c κs = search needs
 
 stamp-requires : tie.Need-stamp-requires Inv-loop μ-loop
 stamp-requires c κs =
     let p = past (c .before .before .before .before .before) in
     let h = c .before .before .before .before .before .before .before .before in
-    (omega (arith, c .before .before .above .ensures, c .above2 .ensures, c .before .lesser .ensures, p .0, c .before .before .before .before .before .before .before .loop-test .taken), omega (arith, c .above2 .ensures, c .before .lesser .ensures, size h, start h .pre .1 .2))
+    (omega (arith, c .before .before .excess .ensures, c .excess2 .ensures, c .before .lesser .ensures, p .0, c .before .before .before .before .before .before .before .loop-test .taken), omega (arith, c .excess2 .ensures, c .before .lesser .ensures, size h, start h .pre .1 .2))
 
 loop-less : tie.Need-loop-less Inv-loop μ-loop
 loop-less c = omega (arith, past (c .before .before .before .before .before .before .before .before) .0, c .before .before .before .before .before .before .before .before .before .before .loop-test .taken)
@@ -98,8 +98,8 @@ loop-again c =
     let x = getD (s .args .octets .now) (l .at) 0 in
     let under : min (l .bins) (s .args .b) ≡ l .bins = omega (arith, c .before .before .before .before .before .before .before .before .before .before .loop-test .taken) in
     let have = l .inv .1 ∙ ap (λ (n : ℕ). front (between (s .args .a) n (row h)) (s .args .out .now)) under in
-    let lo = c .before .before .before .before .before .above .ensures in
-    let hi = c .before .before .before .above2 .ensures ∙ ap (λ (n : ℕ). n - s .args .a) (c .before .before .before .before .lesser .ensures) in (
+    let lo = c .before .before .before .before .before .excess .ensures in
+    let hi = c .before .before .before .excess2 .ensures ∙ ap (λ (n : ℕ). n - s .args .a) (c .before .before .before .before .lesser .ensures) in (
       p .1,
       c .before .before .stamp .ensures
           ∙ (λ i. placed (have i) (lo i) (replicate (hi i - lo i) x))
@@ -115,8 +115,8 @@ returns-2 c = let h = c .before in
     let all : min (h .loop .bins) (s .args .b) ≡ s .args .b = omega (arith, c .loop-test .left) in
     h .loop .inv .1 ∙ ap (λ (n : ℕ). front (between (s .args .a) n (row h)) (s .args .out .now)) all
 
-pub fill-spec : {M : Type 1} → statement M
-fill-spec =
+pub levels-into-spec : {M : Type 1} → statement M
+levels-into-spec =
     tie.close
     (tie.spec
     Inv-loop
@@ -127,9 +127,9 @@ fill-spec =
     shared-slice-read-level
     known-run-requires
     add-end
-    above-requires
+    excess-requires
     lesser-requires
-    above-requires-2
+    excess-requires-2
     stamp-requires
     loop-less
     loop-again

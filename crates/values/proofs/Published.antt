@@ -10,22 +10,22 @@ use lib.IntN.{ℤ, pos}
 use lib.Signed.{mag}
 use lib.ListN.{length, getD}
 use lib.Ieee.Fits.{and-l, and-r}
-use Rattle.values.specs.Published.{levelCount, published, listed, tableOf}
+use Rattle.values.specs.Published.{levelCount, published, valuesFrom, tableOf}
 use Rattle.values.proofs.Signed.{wide, wide-is}
 use Rattle.values.specs.declared.Product.{Product}
 use Rattle.values.specs.declared.Product.the-variants.{Reflectivity, Velocity}
 
 -- ---- any rule
-pub listed-length : (f : ℕ → ℤ) (i k : ℕ) → length (listed f i k) ≡ k
-unfolding listed
-listed-length f i zero = refl
-listed-length f i (suc k) = ap suc (listed-length f (suc i) k)
+pub values-from-length : (f : ℕ → ℤ) (i k : ℕ) → length (valuesFrom f i k) ≡ k
+unfolding valuesFrom
+values-from-length f i zero = refl
+values-from-length f i (suc k) = ap suc (values-from-length f (suc i) k)
 
-pub listed-at : (f : ℕ → ℤ) (i k j : ℕ) → j < k → getD (listed f i k) j (pos 0) ≡ f (i + j)
-unfolding listed
-listed-at f i zero j h = absurd (not-suc-le-zero h)
-listed-at f i (suc k) zero h = ap f (sym (add-zero i))
-listed-at f i (suc k) (suc j) h = listed-at f (suc i) k j (le-of-suc-le-suc h) ∙ ap f (suc-add i j ∙ sym (add-suc i j))
+pub values-from-at : (f : ℕ → ℤ) (i k j : ℕ) → j < k → getD (valuesFrom f i k) j (pos 0) ≡ f (i + j)
+unfolding valuesFrom
+values-from-at f i zero j h = absurd (not-suc-le-zero h)
+values-from-at f i (suc k) zero h = ap f (sym (add-zero i))
+values-from-at f i (suc k) (suc j) h = values-from-at f (suc i) k j (le-of-suc-le-suc h) ∙ ap f (suc-add i j ∙ sym (add-suc i j))
 
 -- level n's place in a list of levels 1 to m
 before : (n m : ℕ) → 1 ≤ n → n ≤ m → n - 1 < m
@@ -42,12 +42,12 @@ count-le Velocity = lit≤ tt
 
 pub table-length : (p : Product) → length (tableOf p) ≡ levelCount p
 unfolding tableOf
-table-length p = listed-length (published p) 1 (levelCount p)
+table-length p = values-from-length (published p) 1 (levelCount p)
 
 -- level n stands at place n - 1
 pub table-at : (p : Product) (n : ℕ) → 1 ≤ n → n ≤ levelCount p → getD (tableOf p) (n - 1) (pos 0) ≡ published p n
 unfolding tableOf
-table-at p n h k = listed-at (published p) 1 (levelCount p) (n - 1) (before n (levelCount p) h k) ∙ ap (published p) (back n h)
+table-at p n h k = values-from-at (published p) 1 (levelCount p) (n - 1) (before n (levelCount p) h k) ∙ ap (published p) (back n h)
 
 -- the place is inside any list that is the table
 pub table-within : (p : Product) (xs : List ℤ) (n : ℕ) → xs ≡ tableOf p → 1 ≤ n → n ≤ levelCount p → n - 1 < length xs
