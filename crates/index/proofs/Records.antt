@@ -9,7 +9,8 @@ use lib.ListN.{length, take, drop, getD, set, replicate, length-append, length-d
 use lib.Seq.{drop-drop, drop-at, drop-cons, set-at}
 use lib.Dec.{leb, ltb}
 use borrow.Author.Tests.{le-leb, lt-leb, lt-ltb, le-ltb}
-use Rattle.runs.specs.Run.{levels, opens, gives, digitSum, digitCount, runLen, runNext}
+use Rattle.runs.specs.Run.{levels, opens, gives, digitSum, runLen}
+use Rattle.runs.specs.Inner.{digitCount, runNext}
 use Rattle.lent.specs.Lent.{front, between}
 use Rattle.octets.proofs.Orders.{by-order}
 use Rattle.lent.proofs.Lent.{drop-here}

@@ -12,7 +12,8 @@ use denote.Enum.Declared.{tagOf}
 use Rattle.runs.specs.declared.Step.{Step}
 use Rattle.runs.specs.declared.Step.the-variants.{Run, Above, Longer, End}
 use Rattle.runs.proofs.Step.{the-type}
-use Rattle.runs.specs.Run.{levels, opens, runLen, runNext, digitSum, stepAt}
+use Rattle.runs.specs.Run.{levels, opens, runLen, digitSum}
+use Rattle.runs.specs.Inner.{runNext, stepAt}
 use Rattle.octets.proofs.Orders.{by-order}
 use Rattle.lent.proofs.Lent.{drop-here}
 use Rattle.runs.proofs.Steps.{stepAt-end, stepAt-above, stepAt-run}

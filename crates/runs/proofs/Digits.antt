@@ -7,7 +7,8 @@ use mathlib.Core.List.{List}
 use native.Mathlib.Omega.{arith}
 use lib.ListN.{length, drop, getD, drop-of-length-le}
 use lib.Dec.{leb}
-use Rattle.runs.specs.Run.{base, digitCount, runLen, runNext}
+use Rattle.runs.specs.Run.{base, runLen}
+use Rattle.runs.specs.Inner.{digitCount, runNext}
 use Rattle.lent.proofs.Lent.{drop-here}
 use Rattle.runs.proofs.Bins.{Weighs, weighs-same, next-weighs, same-digit}
 use Rattle.runs.proofs.Steps.{dsum, dsum-nil, dsum-open, dsum-digit, digitSum-is, digitCount-nil, digitCount-open, digitCount-digit}

@@ -8,8 +8,9 @@ use lib.ListN.{length, drop, getD, replicate, length-append, length-replicate, l
 use lib.Seq.{drop-drop, drop-at, getD-append-add, getD-drop}
 use lib.Dec.{leb, eqb}
 use borrow.Author.Tests.{le-leb, leb-true, eqb-true}
-use Rattle.runs.specs.Run.{digitSum, digitCount, levels, opens, gives, runLen, runNext}
-use Rattle.runs.specs.Holding.{Holds}
+use Rattle.runs.specs.Run.{digitSum, levels, opens, gives, runLen}
+use Rattle.runs.specs.Inner.{digitCount, runNext}
+use Rattle.runs.specs.Inner.{Holds}
 use Rattle.runs.specs.declared.HoldingRun.{HoldingRun}
 use Rattle.runs.specs.declared.Scan.the-variants.{Exact, Off}
 use Rattle.octets.proofs.Orders.{by-order}

@@ -10,7 +10,8 @@ use lib.ListN.{length, drop, getD, drop-of-length-le}
 use lib.Seq.{take-all}
 use lib.Dec.{leb, ltb, eqb}
 use borrow.Author.Tests.{le-leb, lt-leb, lt-ltb, le-ltb, eq-eqb, ne-eqb}
-use Rattle.runs.specs.Run.{base, levels, gives, scanned}
+use Rattle.runs.specs.Run.{base, levels, gives}
+use Rattle.runs.specs.Inner.{scanned}
 use Rattle.runs.specs.declared.Scan.{Scan}
 use Rattle.runs.specs.declared.Scan.the-variants.{Exact, Off}
 use Rattle.octets.proofs.Orders.{by-order}

@@ -10,7 +10,8 @@ use native.Mathlib.Omega.{arith}
 use lib.ListN.{length, drop, getD, drop-of-length-le}
 use lib.Dec.{leb, ltb}
 use borrow.Author.Tests.{le-leb, lt-leb, lt-ltb, le-ltb}
-use Rattle.runs.specs.Run.{base, digitSum, digitCount, runLen, runNext, stepAt}
+use Rattle.runs.specs.Run.{base, digitSum, runLen}
+use Rattle.runs.specs.Inner.{digitCount, runNext, stepAt}
 use Rattle.runs.specs.declared.Step.{Step}
 use Rattle.runs.specs.declared.Step.the-variants.{Run, Above, Longer, End}
 use Rattle.octets.proofs.Orders.{by-order}

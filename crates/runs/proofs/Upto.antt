@@ -11,7 +11,8 @@ use denote.Enum.Declared.{tagOf}
 use Rattle.runs.specs.declared.Step.{Step}
 use Rattle.runs.specs.declared.Step.the-variants.{Run, Above, Longer, End}
 use Rattle.runs.proofs.Step.{the-type}
-use Rattle.runs.specs.Run.{levels, opens, runLen, runNext, stepAt}
+use Rattle.runs.specs.Run.{levels, opens, runLen}
+use Rattle.runs.specs.Inner.{runNext, stepAt}
 use Rattle.octets.proofs.Orders.{by-order}
 use Rattle.lent.proofs.Lent.{drop-here}
 use Rattle.runs.proofs.Steps.{stepAt-run}

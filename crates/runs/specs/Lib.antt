@@ -1,3 +1,3 @@
 pub mod Run
 pub mod Runs
-pub mod Holding
+pub mod Inner

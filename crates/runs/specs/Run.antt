@@ -2,21 +2,12 @@
 use Prim.Native.Nat.{ℕ, _+_, _-_, _*_, _^_}
 use mathlib.Core.List.{List, [], _∷_, _++_}
 use mathlib.Core.Bool.{Bool, true, false, cond}
-use lib.ListN.{length, replicate, drop, getD}
-use lib.Dec.{leb, ltb, eqb}
-use Rattle.runs.specs.declared.Scan.{Scan}
-use Rattle.runs.specs.declared.Scan.the-variants.{Exact, Off}
-use Rattle.runs.specs.declared.Step.{Step}
-use Rattle.runs.specs.declared.Step.the-variants.{Run, Above, Longer, End}
+use lib.ListN.{length, replicate, drop}
+use lib.Dec.{leb, eqb}
 
 -- "Let B = 255 - V"
 abbrev pub base : ℕ → ℕ
 base v = 255 - v
-
--- how many digits stand at the front
-unfoldable pub digitCount : ℕ → List ℕ → ℕ
-digitCount v [] = 0
-digitCount v (o ∷ s) = cond (leb o v) 0 (1 + digitCount v s)
 
 -- "Octets above V that follow are digits (octet - V - 1), least first, base B": of the digits at the front, the sum of digit j times B^(k + j)
 unfoldable pub digitSum : ℕ → ℕ → List ℕ → ℕ
@@ -37,22 +28,6 @@ opens v (o ∷ s) = leb o v
 unfoldable pub gives : ℕ → ℕ → List ℕ → Bool
 gives v n s = cond (opens v s) (eqb (length (levels v s)) n) false
 
--- what a scan for n bins finds
-abbrev pub scanned : ℕ → ℕ → List ℕ → Scan
-scanned v n s = cond (gives v n s) Exact Off
-
--- the length of the run that the octet at a place opens, and the place past its digits
+-- the length of the run that the octet at a place opens
 abbrev pub runLen : ℕ → List ℕ → ℕ → ℕ
 runLen v s at = 1 + digitSum v 0 (drop (at + 1) s)
-
-abbrev pub runNext : ℕ → List ℕ → ℕ → ℕ
-runNext v s at = at + 1 + digitCount v (drop (at + 1) s)
-
--- the run step: what stands at a place. Over: a run of more than cap bins
-unfoldable pub stepAt : ℕ → ℕ → List ℕ → ℕ → Step
-stepAt v cap s at =
-    cond (ltb at (length s))
-    (cond (leb (getD s at 0) v)
-    (cond (leb (runLen v s at) cap) (Run (getD s at 0) (runLen v s at) (runNext v s at)) Longer)
-    Above)
-    End

@@ -6,9 +6,10 @@ ghost use mathlib.Core.Bool.{true};
 ghost use mathlib.Core.Path.{_≡_};
 ghost use Prim.Native.Nat.{_≤_, _<_, _-_, min};
 ghost use lib.ListN.{length, replicate, getD};
-ghost use Rattle.runs.specs.Run.{levels, opens, scanned, runLen, runNext, stepAt};
+ghost use Rattle.runs.specs.Run.{levels, opens, runLen};
+ghost use Rattle.runs.specs.Inner.{scanned, runNext, stepAt};
 ghost use Rattle.lent.specs.Lent.{front, between};
-ghost use Rattle.runs.specs.Holding.{Holds};
+ghost use Rattle.runs.specs.Inner.{Holds};
 
 // Whether octets give exactly the bins wanted.
 pub enum Scan {

@@ -12,9 +12,11 @@ use lib.ListN.{length, getD, take, drop}
 use lib.Seq.{sets, length-sets, take-nil, drop-nil}
 use lib.Dec.{leb, ltb}
 use borrow.Author.Tests.{ltb-true}
-use Rattle.runs.specs.Run.{levels, opens, runLen, runNext}
+use Rattle.runs.specs.Run.{levels, opens, runLen}
+use Rattle.runs.specs.Inner.{runNext}
 use Rattle.runs.proofs.Here.{Stands, stands-first, here-inside, here-fits, here-level, here-next}
-use Rattle.stretches.specs.Stretch.{Entry, KindOfLevel, perEntry, kindAt, starts, entryAt, listFrom, fromPlace, words, wordsOf, mustList}
+use Rattle.stretches.specs.Stretch.{Entry, KindOfLevel, perEntry, kindAt, starts, entryAt, listFrom, fromPlace, words, wordsOf}
+use Rattle.stretches.specs.Inner.{mustList}
 use Rattle.stretches.specs.Call.{answer, stretchesFrom, answerOf, outOf}
 use Rattle.stretches.specs.declared.Listing.{Listing}
 use Rattle.stretches.proofs.Laws.{fresh-ray, fresh-other, quiet, starts-zero, close-list}

@@ -11,7 +11,8 @@ use lib.ListN.{length, set}
 use lib.Seq.{sets}
 use lib.Dec.{leb, ltb, eqb}
 use borrow.Author.Tests.{lt-ltb, le-ltb, le-leb, lt-leb, eq-eqb, ne-eqb, eqb-true, eqb-false}
-use Rattle.stretches.specs.Stretch.{Entry, perEntry, beginsAfter, starts, unbroken, listFrom, fromPlace, wordsOf, mustList}
+use Rattle.stretches.specs.Stretch.{Entry, perEntry, beginsAfter, starts, unbroken, listFrom, fromPlace, wordsOf}
+use Rattle.stretches.specs.Inner.{mustList}
 
 -- ---- the test for a start
 

@@ -9,10 +9,11 @@ use Rattle.runs.specs.Run.{levels, digitSum}
 use Rattle.octets.proofs.Orders.{by-order}
 use Rattle.runs.proofs.Bins.{levels-nil, levels-open, levels-digit}
 use Rattle.values.specs.Published.{levelCount}
-use Rattle.values.specs.Reading.{KindsBy}
+use Rattle.values.specs.Inner.{KindsBy}
 use Rattle.values.specs.declared.Product.{Product}
 use Rattle.stretches.specs.Stretch.{KindOfLevel, kindAt, starts, listFrom, stretchesOf, fromPlace}
-use Rattle.stretches.specs.Call.{kindByThreshold, kindByTable, stretchesFrom}
+use Rattle.stretches.specs.Call.{kindByThreshold, stretchesFrom}
+use Rattle.stretches.specs.Inner.{kindByTable}
 
 -- ---- no level is over V
 append-le : (v : ℕ) (a b : List ℕ) → ((k : ℕ) → getD a k 0 ≤ v) → ((k : ℕ) → getD b k 0 ≤ v) → (k : ℕ) → getD (a ++ b) k 0 ≤ v

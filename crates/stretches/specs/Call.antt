@@ -19,10 +19,6 @@ use Rattle.stretches.specs.declared.Listing.{Listing}
 abbrev pub kindByThreshold : Product → ℤ → KindOfLevel
 kindByThreshold p t = record { kind = λ l. kindNumber (kindOf (readingOf p l) t) }
 
--- a scale by a table of kinds
-abbrev pub kindByTable : List ℕ → KindOfLevel
-kindByTable ks = record { kind = λ l. getD ks l 0 }
-
 -- "Lists in order the stretches that start at or past the point": all of them, q being the point's place
 unfoldable pub stretchesFrom : KindOfLevel → ℕ → List ℕ → ℕ → ℕ → ℕ → List Entry
 stretchesFrom sc v xs nb nr q = fromPlace nb q (stretchesOf sc (levels v xs) nb (nr * nb))
@@ -43,14 +39,6 @@ answerOf nr n es = answer nr (length (fitting n es)) (drop (n / perEntry) es)
 -- the words that held `out`, afterwards
 unfoldable pub outOf : List ℕ → List Entry → List ℕ
 outOf out es = sets out 0 (wordsOf (fitting (length out) es))
-
--- a cut's data: nr rays of nb bins, run-length coded under v
-pub record CutData (v nb nr : ℕ) (xs : List ℕ) : Type 0 where
-  pub v-le : v ≤ 253
-  pub nb-pos : 0 < nb
-  pub nb-le : nb ≤ 2048
-  pub nr-le : nr ≤ 1024
-  pub given : gives v (nr * nb) xs ≡ true
 
 -- "A house form uses T = 4000", in hundredths
 abbrev pub houseThreshold : ℕ

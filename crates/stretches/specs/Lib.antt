@@ -1,3 +1,4 @@
 pub mod Stretch
 pub mod Call
 pub mod Meaning
+pub mod Inner

@@ -62,7 +62,3 @@ stretchesOf sc ls nb m = listFrom (starts (kindAt sc ls) nb) (entryAt sc ls nb) 
 unfoldable pub fromPlace : ℕ → ℕ → List Entry → List Entry
 fromPlace nb q [] = []
 fromPlace nb q (e ∷ es) = cond (leb q (e .ray * nb + e .first)) (e ∷ fromPlace nb q es) (fromPlace nb q es)
-
--- a stretch from place s up to place p is one to list: it begins at place q or past it, and has a bin
-unfoldable pub mustList : ℕ → ℕ → ℕ → Bool
-mustList q s p = leb q s && ltb s p

@@ -11,8 +11,10 @@ ghost use Prim.Native.Nat.{_+_, _*_, _≤_, _<_};
 ghost use lib.ListN.{length};
 ghost use lib.Seq.{sets};
 ghost use Rattle.values.specs.Published.{levelCount};
-ghost use Rattle.stretches.specs.Stretch.{perEntry, mustList};
-ghost use Rattle.stretches.specs.Call.{CutData, kindByThreshold, kindByTable, stretchesFrom, answerOf, outOf, rightT, rightPoint};
+ghost use Rattle.stretches.specs.Stretch.{perEntry};
+ghost use Rattle.stretches.specs.Inner.{mustList};
+ghost use Rattle.stretches.specs.Inner.{CutData, kindByTable};
+ghost use Rattle.stretches.specs.Call.{kindByThreshold, stretchesFrom, answerOf, outOf, rightT, rightPoint};
 
 // How many words an entry takes.
 pub const PER_ENTRY: usize = 4;

@@ -14,8 +14,9 @@ use borrow.Author.Tests.{eq-eqb, ne-eqb, eqb-true, eqb-false, ltb-true}
 use Rattle.octets.specs.Octets.{same}
 use Rattle.octets.proofs.Same.{same-eq, same-refl}
 use Rattle.values.specs.Published.{tableOf}
-use Rattle.values.specs.Table.{signMagnitude, pairRight, octetsOf, tableOctets, tableRight}
-use Rattle.values.specs.Row.{InTwoOctets}
+use Rattle.values.specs.Table.{signMagnitude, octetsOf, tableOctets, tableRight}
+use Rattle.values.specs.Inner.{pairRight}
+use Rattle.values.specs.Inner.{InTwoOctets}
 use Rattle.values.specs.declared.Product.{Product}
 use Rattle.values.specs.declared.Product.the-variants.{Reflectivity, Velocity}
 

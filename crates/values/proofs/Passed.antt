@@ -7,12 +7,12 @@ use lib.ListN.{length, take, drop, length-drop}
 use lib.Seq.{take-all, drop-drop}
 use Rattle.runs.specs.Run.{levels}
 use Rattle.lent.specs.Lent.{between}
-use Rattle.runs.specs.Holding.{Holds}
+use Rattle.runs.specs.Inner.{Holds}
 use Rattle.runs.specs.declared.HoldingRun.{HoldingRun}
 use Rattle.runs.proofs.Here.{stands-holding, here-inside}
 use Rattle.values.specs.Published.{levelCount}
 use Rattle.values.specs.declared.Product.{Product}
-use Rattle.values.specs.Row.{Bins}
+use Rattle.values.specs.Inner.{Bins}
 use Rattle.values.proofs.Published.{count-le}
 
 -- the greatest level of a product leaves runs a base

@@ -10,7 +10,7 @@ use Rattle.lent.proofs.Updated.{run-updated, run-kept, updated-at}
 use lib.IntN.{ℤ, pos}
 use Rattle.values.specs.Ray.{markAt, heldAt, marksOf, valuesOf}
 use Rattle.values.specs.Reading.{readingOf, markOf, heldOf}
-use Rattle.values.specs.Row.{numberOf, numberedTo}
+use Rattle.values.specs.Inner.{numberOf, numberedTo}
 use Rattle.values.specs.declared.Product.{Product}
 use Rattle.values.specs.declared.Reading.{Reading}
 use Rattle.values.specs.declared.Reading.the-variants.{Missing, Number}

@@ -2,4 +2,4 @@ pub mod Published
 pub mod Reading
 pub mod Ray
 pub mod Table
-pub mod Row
+pub mod Inner

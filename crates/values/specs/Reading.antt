@@ -1,16 +1,12 @@
 -- What a level is, in one place: a level's mark, the value it leaves in a lent buffer and its kind go by cases on it.
-use Prim.Native.Nat.{ℕ, _≤_}
-use mathlib.Core.Path.{_≡_}
+use Prim.Native.Nat.{ℕ}
 use mathlib.Core.Bool.{cond}
-use mathlib.Core.List.{List}
 use lib.Dec.{eqb}
-use lib.ListN.{getD}
 use lib.IntN.{ℤ}
 use lib.Signed.{ltZ}
-use Rattle.kinds.specs.KindTable.{kindNumber}
 use Rattle.kinds.specs.declared.Kind.{Kind}
 use Rattle.kinds.specs.declared.Kind.the-variants as K
-use Rattle.values.specs.Published.{published, levelCount}
+use Rattle.values.specs.Published.{published}
 use Rattle.values.specs.declared.Product.{Product}
 use Rattle.values.specs.declared.Reading.{Reading}
 use Rattle.values.specs.declared.Reading.the-variants.{Missing, Number}
@@ -34,7 +30,3 @@ heldOf (Number z) x = z
 unfoldable pub kindOf : Reading → ℤ → Kind
 kindOf Missing t = K.Missing
 kindOf (Number z) t = cond (ltZ z t) K.Under K.Over
-
--- ks has the number of each level's kind at its place
-abbrev pub KindsBy : Product → ℤ → List ℕ → Type 0
-KindsBy p t ks = (l : ℕ) → l ≤ levelCount p → getD ks l 0 ≡ kindNumber (kindOf (readingOf p l) t)

@@ -1,8 +1,7 @@
 -- Section 5's value table, octet for octet (document 01, "Sections" and "Numbers in a file").
 use Prim.Native.Nat.{ℕ, suc, _+_, _/_, _%_}
-use mathlib.Core.Bool.{Bool, _&&_}
+use mathlib.Core.Bool.{Bool}
 use mathlib.Core.List.{List, [], _∷_}
-use lib.Dec.{eqb}
 use lib.IntN.{ℤ, pos, negsuc}
 use Rattle.octets.specs.Octets.{same}
 use Rattle.values.specs.Published.{tableOf}
@@ -12,11 +11,6 @@ use Rattle.values.specs.declared.Product.{Product}
 unfoldable pub signMagnitude : ℤ → ℕ
 signMagnitude (pos n) = n
 signMagnitude (negsuc k) = 32768 + suc k
-
--- two octets, most significant first, write a value
-unfoldable pub pairRight : ℕ → ℕ → ℤ → Bool
-unfolding signMagnitude
-pairRight high low z = eqb high (signMagnitude z / 256) && eqb low (signMagnitude z % 256)
 
 -- values in two octets each, most significant first
 unfoldable pub octetsOf : List ℤ → List ℕ

@@ -11,11 +11,13 @@ ghost use lib.ListN.{length, replicate};
 ghost use Rattle.runs.specs.Run.{levels};
 ghost use Rattle.lent.specs.Lent.{placed, between};
 ghost use Rattle.values.specs.Published.{levelCount, published, tableOf};
-ghost use Rattle.values.specs.Reading.{readingOf, markOf, kindOf, KindsBy};
+ghost use Rattle.values.specs.Reading.{readingOf, markOf, kindOf};
+ghost use Rattle.values.specs.Inner.{KindsBy};
 ghost use Rattle.values.specs.Ray.{marksOf, valuesOf};
 ghost use Rattle.octets.specs.Octets.{same};
-ghost use Rattle.values.specs.Table.{signMagnitude, pairRight, octetsOf, tableRight};
-ghost use Rattle.values.specs.Row.{numberOf, numberedTo, InTwoOctets, Bins};
+ghost use Rattle.values.specs.Table.{signMagnitude, octetsOf, tableRight};
+ghost use Rattle.values.specs.Inner.{pairRight};
+ghost use Rattle.values.specs.Inner.{numberOf, numberedTo, InTwoOctets, Bins};
 
 mod tables;
 

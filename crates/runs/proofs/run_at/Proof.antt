@@ -6,7 +6,7 @@ use lib.ListN.{length, getD, drop}
 use borrow.Author.Needs.{needs}
 use borrow.Author.Tests.{le-leb, lt-leb}
 use native.Mathlib.Nat.{mul-le-mul}
-use Rattle.runs.specs.Run.{stepAt}
+use Rattle.runs.specs.Inner.{stepAt}
 use Rattle.runs.proofs.Bins.{product}
 use Rattle.runs.proofs.Steps.{goOn, run-start, run-zero, stepAt-end, stepAt-above, stepAt-run, go-digit, go-over, go-stop, go-end}
 use Rattle.runs.proofs.run_at.Statement.{statement}

@@ -6,7 +6,7 @@ use native.Mathlib.Omega.{arith}
 use native.Mathlib.Nat.{mul-le-mul}
 use lib.ListN.{length, getD, drop}
 use borrow.Author.Tests.{le-leb, lt-leb}
-use Rattle.runs.specs.Run.{scanned}
+use Rattle.runs.specs.Inner.{scanned}
 use Rattle.runs.specs.declared.Scan.the-variants.{Off}
 use Rattle.runs.proofs.Bins.{product}
 use Rattle.runs.proofs.Scanning.{verdict, inRun, atRun, none-given, all-read, too-few, atRun-right, level-step, level-last, digits-level, digit-step, digit-last, above-fails, full-fails, past-fails}

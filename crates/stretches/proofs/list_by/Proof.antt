@@ -9,7 +9,8 @@ use lib.ListN.{length, getD}
 use Rattle.runs.specs.Run.{levels}
 use Rattle.runs.proofs.Here.{gives-true}
 use Rattle.stretches.specs.Stretch.{perEntry}
-use Rattle.stretches.specs.Call.{kindByTable, stretchesFrom}
+use Rattle.stretches.specs.Inner.{kindByTable}
+use Rattle.stretches.specs.Call.{stretchesFrom}
 use Rattle.stretches.proofs.Going.{next-ray, promised, told, same-size, Going, going-start, ray-le, run-inside, run-fits, changing, going-changed, going-on, ending, going-ended, due, due-start, ended, passed, wrote, stuck}
 use Rattle.stretches.proofs.list_by.Statement.{statement}
 use Rattle.stretches.proofs.list_by.Tie as tie

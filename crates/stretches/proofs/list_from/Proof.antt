@@ -7,7 +7,8 @@ use mir.Syntax.{w32}
 use mir.ValLaws.{toZ-ofZ}
 use denote.Ref.{now}
 use Rattle.kinds.specs.KindTable.{kindNumber}
-use Rattle.values.specs.Reading.{readingOf, kindOf, KindsBy}
+use Rattle.values.specs.Reading.{readingOf, kindOf}
+use Rattle.values.specs.Inner.{KindsBy}
 use Rattle.stretches.proofs.Points.{point-small}
 use Rattle.stretches.proofs.SameKinds.{table-listed}
 use borrow.Author.Needs.{needs}

@@ -2,7 +2,7 @@
 use mir.Syntax.{w32}
 use mir.Facts.{toZ-ofZ}
 use mathlib.Core.Path.{_∙_, sym, ap}
-use Rattle.values.specs.Row.{numberOf}
+use Rattle.values.specs.Inner.{numberOf}
 use borrow.Author.Needs.{needs}
 use Rattle.values.proofs.number_of.Statement.{statement}
 use Rattle.values.proofs.number_of.Tie as tie

@@ -1,6 +1,6 @@
 -- By cases on the reading.
 use mathlib.Core.Path.{sym, ap}
-use Rattle.values.specs.Row.{numberedTo}
+use Rattle.values.specs.Inner.{numberedTo}
 use Rattle.values.specs.declared.Reading.{Reading}
 use borrow.Author.Needs.{needs}
 use Rattle.values.proofs.numbered_to.Statement.{statement}

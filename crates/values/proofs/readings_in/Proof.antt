@@ -14,7 +14,7 @@ use Rattle.runs.proofs.Upto.{cut-next}
 use Rattle.lent.specs.Lent.{updated}
 use Rattle.values.specs.Ray.{markAt, heldAt, marksOf, valuesOf}
 use Rattle.values.specs.Reading.{markOf}
-use Rattle.values.specs.Row.{numberOf, numberedTo}
+use Rattle.values.specs.Inner.{numberOf, numberedTo}
 use Rattle.values.proofs.Passed.{base-low}
 use Rattle.lent.proofs.Updated.{updated-none, updated-length}
 use Rattle.values.proofs.Ray.{marks-run, values-run}

@@ -8,7 +8,8 @@ use Prim.Native.Nat.{_+_, _*_, _-_, _≤_, _<_}
 use native.Mathlib.Omega.{arith}
 use lib.ListN.{length, getD, drop}
 use Rattle.octets.specs.Octets.{same}
-use Rattle.values.specs.Table.{signMagnitude, pairRight, octetsOf}
+use Rattle.values.specs.Table.{signMagnitude, octetsOf}
+use Rattle.values.specs.Inner.{pairRight}
 use Rattle.values.proofs.Octets.{unlike-length, with-pair, no-pair}
 use Rattle.values.proofs.right_in.Statement.{statement}
 use Rattle.values.proofs.right_in.Tie as tie

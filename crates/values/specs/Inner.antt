@@ -1,12 +1,15 @@
 -- What the crate's own functions ask of each other and leave: no promise of a call cites these.
-use Prim.Native.Nat.{ℕ, _-_, _≤_, _<_}
+use Prim.Native.Nat.{ℕ, _-_, _/_, _%_, _≤_, _<_}
 use mathlib.Core.Path.{_≡_}
-use mathlib.Core.Bool.{true}
+use mathlib.Core.Bool.{Bool, true, _&&_}
 use mathlib.Core.List.{List}
 use lib.ListN.{length, getD}
+use lib.Dec.{eqb}
 use lib.IntN.{ℤ, pos}
+use Rattle.kinds.specs.KindTable.{kindNumber}
 use Rattle.runs.specs.Run.{levels, opens}
 use Rattle.values.specs.Published.{levelCount}
+use Rattle.values.specs.Reading.{readingOf, kindOf}
 use Rattle.values.specs.Table.{signMagnitude}
 use Rattle.values.specs.declared.Product.{Product}
 use Rattle.values.specs.declared.Reading.{Reading}
@@ -35,3 +38,12 @@ pub record Bins (p : Product) (v a b : ℕ) (s : List ℕ) (marks values : ℕ) 
   pub given : b ≤ length (levels v s)
   pub room-marks : b - a ≤ marks
   pub room-values : b - a ≤ values
+
+-- ks has the number of each level's kind at its place
+abbrev pub KindsBy : Product → ℤ → List ℕ → Type 0
+KindsBy p t ks = (l : ℕ) → l ≤ levelCount p → getD ks l 0 ≡ kindNumber (kindOf (readingOf p l) t)
+
+-- two octets, most significant first, write a value
+unfoldable pub pairRight : ℕ → ℕ → ℤ → Bool
+unfolding signMagnitude
+pairRight high low z = eqb high (signMagnitude z / 256) && eqb low (signMagnitude z % 256)
