@@ -16,15 +16,6 @@ returns-2 : tie.Need-returns-2
 unfolding checkAnswer
 returns-2 c = record { answered = simp (lt-ltb _ _ (c .if2 .taken), le-ltb _ _ (c .before .if1 .left)) }
 
-scan-runs-requires : tie.Need-scan-runs-requires
-scan-runs-requires c κs = search needs
-
-enum-told : tie.Need-enum-told
-enum-told c = search needs
-
-enum-told-2 : tie.Need-enum-told-2
-enum-told-2 c = search needs
-
 returns-3 : tie.Need-returns-3
 unfolding checkAnswer
 returns-3 c = let a = c .before .before .before .before .before .before .args in
@@ -39,5 +30,4 @@ returns-4 c = let a = c .before .before .before .before .before .before .args in
 
 pub run-check-spec : {M : Type 1} → statement M
 run-check-spec =
-    tie.close
-    (tie.spec returns returns-2 scan-runs-requires enum-told enum-told-2 returns-3 returns-4)
+    tie.close (tie.spec returns returns-2 (search needs) (search needs) (search needs) returns-3 returns-4)

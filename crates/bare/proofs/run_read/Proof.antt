@@ -26,15 +26,6 @@ returns-3 : tie.Need-returns-3
 unfolding readAnswer
 returns-3 c = record { answered = simp (lt-ltb _ _ (c .if3 .taken), le-ltb _ _ (c .before .if2 .left), le-ltb _ _ (c .before .before .if1 .left)); held = refl }
 
-scan-runs-requires : tie.Need-scan-runs-requires
-scan-runs-requires c κs = search needs
-
-enum-told : tie.Need-enum-told
-enum-told c = search needs
-
-enum-told-2 : tie.Need-enum-told-2
-enum-told-2 c = search needs
-
 returns-4 : tie.Need-returns-4
 unfolding readAnswer
 returns-4 c = let a = c .before .before .before .before .before .before .before .before .args in
@@ -50,9 +41,6 @@ levels-into-requires c κs = let a = c .before .before .before .before .before .
     let g = gives-true (a .v) (a .n) (a .octets .now) (exact (c .before)) in
     ((omega arith, g .0, omega arith), (omega arith, omega (arith, g .1), omega arith))
 
-same-length : tie.Need-same-length
-same-length c = search needs
-
 returns-5 : tie.Need-returns-5
 unfolding readAnswer
 returns-5 c = let a = c .before .before .before .before .before .before .before .before .before .before .before .before .args in
@@ -65,15 +53,5 @@ returns-5 c = let a = c .before .before .before .before .before .before .before 
 
 pub run-read-spec : {M : Type 1} → statement M
 run-read-spec =
-    tie.close
-    (tie.spec
-    returns
-    returns-2
-    returns-3
-    scan-runs-requires
-    enum-told
-    enum-told-2
-    returns-4
-    levels-into-requires
-    same-length
-    returns-5)
+    tie.close (tie.spec returns returns-2 returns-3 (search needs) (search needs) (search needs) returns-4
+    levels-into-requires (search needs) returns-5)

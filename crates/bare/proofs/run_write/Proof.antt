@@ -18,17 +18,11 @@ returns : tie.Need-returns
 unfolding writeAnswer
 returns c = record { answered = simp (lt-ltb _ _ (c .if1 .taken)); held = refl }
 
-greatest-of-requires : tie.Need-greatest-of-requires
-greatest-of-requires c κs = search needs
-
 returns-2 : tie.Need-returns-2
 unfolding writeAnswer
 returns-2 c = let levels = c .before .before .before .before .before .args .levels .now in
     let high : 252 < greatest levels = omega (arith, c .before .greatest-of .ensures) in
     record { answered = simp (le-ltb _ _ (c .before .before .if1 .left), lt-ltb _ _ high); held = refl }
-
-has-room-requires : tie.Need-has-room-requires
-has-room-requires c κs = search needs
 
 returns-3 : tie.Need-returns-3
 unfolding writeAnswer
@@ -43,9 +37,6 @@ returns-3 c = let levels = c .before .before .before .before .before .before .be
 
 put-all-requires : tie.Need-put-all-requires
 put-all-requires c κs = (omega arith, omega arith, leb-true _ _ (sym (c .before .before .has-room .ensures) ∙ not-false _ (c .before .if3 .left)))
-
-same-length : tie.Need-same-length
-same-length c = search needs
 
 returns-4 : tie.Need-returns-4
 unfolding writeAnswer
@@ -65,13 +56,5 @@ returns-4 c = let levels = c .before .before .before .before .before .before .be
 
 pub run-write-spec : {M : Type 1} → statement M
 run-write-spec =
-    tie.close
-    (tie.spec
-    returns
-    greatest-of-requires
-    returns-2
-    has-room-requires
-    returns-3
-    put-all-requires
-    same-length
-    returns-4)
+    tie.close (tie.spec returns (search needs) returns-2 (search needs) returns-3 put-all-requires
+    (search needs) returns-4)

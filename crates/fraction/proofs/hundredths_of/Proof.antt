@@ -4,11 +4,8 @@ use borrow.Author.Needs.{needs}
 use Rattle.fraction.proofs.hundredths_of.Statement.{statement}
 use Rattle.fraction.proofs.hundredths_of.Tie as tie
 
-int-to-float-result : tie.Need-int-to-float-result
-int-to-float-result c = search needs
-
 returns : tie.Need-returns
 returns c = worked-out (c .before .args .z) (c .before .fits .z)
 
 pub hundredths-of-spec : {M : Type 1} → statement M
-hundredths-of-spec = tie.close (tie.spec int-to-float-result returns)
+hundredths-of-spec = tie.close (tie.spec (search needs) returns)

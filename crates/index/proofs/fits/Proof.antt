@@ -9,27 +9,9 @@ use Rattle.index.proofs.Usable.{usable-outside, usable-from, to-end}
 use Rattle.index.proofs.fits.Statement.{statement}
 use Rattle.index.proofs.fits.Tie as tie
 
-cast-at : tie.Need-cast-at
-cast-at c = search needs
-
 returns : tie.Need-returns
 returns c = let s = c .before .before .before in let a = s .args in
     sym (usable-outside (a .v) (a .nb) (a .octets .now) (a .rec) (c .if1 .taken))
-
-cast-before : tie.Need-cast-before
-cast-before c = search needs
-
-sub-fits-in : tie.Need-sub-fits-in
-sub-fits-in c = search needs
-
-part-fits-in-start : tie.Need-part-fits-in-start
-part-fits-in-start c = search needs
-
-part-fits-in-end : tie.Need-part-fits-in-end
-part-fits-in-end c = search needs
-
-fits-in-requires : tie.Need-fits-in-requires
-fits-in-requires c κs = search needs
 
 returns-2 : tie.Need-returns-2
 returns-2 c = let s = c .before .before .before .before .before .before in let a = s .args in
@@ -39,13 +21,5 @@ returns-2 c = let s = c .before .before .before .before .before .before in let a
 
 pub fits-spec : {M : Type 1} → statement M
 fits-spec =
-    tie.close
-    (tie.spec
-    cast-at
-    returns
-    cast-before
-    sub-fits-in
-    part-fits-in-start
-    part-fits-in-end
-    fits-in-requires
-    returns-2)
+    tie.close (tie.spec (search needs) returns (search needs) (search needs) (search needs) (search needs)
+    (search needs) returns-2)

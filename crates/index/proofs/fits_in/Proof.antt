@@ -8,19 +8,10 @@ use Rattle.index.proofs.Usable.{over-opens, over-usable, other-usable}
 use Rattle.index.proofs.fits_in.Statement.{statement}
 use Rattle.index.proofs.fits_in.Tie as tie
 
-run-at-requires : tie.Need-run-at-requires
-run-at-requires c κs = search needs
-
-enum-told : tie.Need-enum-told
-enum-told c = search needs
-
 returns : tie.Need-returns
 returns c = let s = c .before .before .before in let a = s .args in
     sym (other-usable (a .v) (a .nb) (a .octets .now) (a .before) _ (c .before .run-at .ensures)
     (λ t. ⊎-elim (λ w. eqb-false 2 0 refl (sym t ∙ w)) (⊎-elim (λ w. eqb-false 2 1 refl (sym t ∙ w)) (λ w. eqb-false 2 3 refl (sym t ∙ w))) (c .match .keys2)))
-
-add-reaches : tie.Need-add-reaches
-add-reaches c = search needs
 
 reaches-requires : tie.Need-reaches-requires
 reaches-requires c κs = let s = c .before .before .before .before in let a = s .args in
@@ -31,4 +22,5 @@ returns-2 c = let s = c .before .before .before .before .before in let a = s .ar
     c .reaches .ensures ∙ sym (over-usable (a .v) (a .nb) (a .octets .now) (a .before) (sym (c .before .enum-told .given .1) ∙ c .before .before .before .run-at .ensures))
 
 pub fits-in-spec : {M : Type 1} → statement M
-fits-in-spec = tie.close (tie.spec run-at-requires enum-told returns add-reaches reaches-requires returns-2)
+fits-in-spec =
+    tie.close (tie.spec (search needs) (search needs) returns (search needs) reaches-requires returns-2)

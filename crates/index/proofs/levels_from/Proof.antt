@@ -12,30 +12,9 @@ use borrow.Author.Needs.{needs}
 use Rattle.index.proofs.levels_from.Statement.{statement}
 use Rattle.index.proofs.levels_from.Tie as tie
 
-cast-at : tie.Need-cast-at
-cast-at c = search needs
-
 returns : tie.Need-returns
 returns c = let s = c .before .before .before .before in let a = s .args in
     (sym (usable-outside (a .v) (a .nb) (a .octets .now) (a .rec) (c .if1 .taken)), refl)
-
-cast-before : tie.Need-cast-before
-cast-before c = search needs
-
-sub-levels-in : tie.Need-sub-levels-in
-sub-levels-in c = search needs
-
-part-levels-in-start : tie.Need-part-levels-in-start
-part-levels-in-start c = search needs
-
-part-levels-in-end : tie.Need-part-levels-in-end
-part-levels-in-end c = search needs
-
-levels-in-requires : tie.Need-levels-in-requires
-levels-in-requires c κs = search needs
-
-same-length : tie.Need-same-length
-same-length c = search needs
 
 returns-2 : tie.Need-returns-2
 returns-2 c = let s = c .before .before .before .before .before .before .before .before .before .before in let a = s .args in
@@ -47,14 +26,5 @@ returns-2 c = let s = c .before .before .before .before .before .before .before 
 
 pub levels-from-spec : {M : Type 1} → statement M
 levels-from-spec =
-    tie.close
-    (tie.spec
-    cast-at
-    returns
-    cast-before
-    sub-levels-in
-    part-levels-in-start
-    part-levels-in-end
-    levels-in-requires
-    same-length
-    returns-2)
+    tie.close (tie.spec (search needs) returns (search needs) (search needs) (search needs) (search needs)
+    (search needs) (search needs) returns-2)

@@ -23,12 +23,6 @@ brought L row d a n far e =
     let size : length (between a (a + n) L) ≡ n = length-between L a (a + n) far ∙ span in
     ap (take n) e ∙ take-at (between a (a + n) L) (drop (length (between a (a + n) L)) d) n size ∙ ap (λ (k : ℕ). take k (drop a L)) span
 
-run-at-requires : tie.Need-run-at-requires
-run-at-requires c κs = search needs
-
-enum-told : tie.Need-enum-told
-enum-told c = search needs
-
 returns : tie.Need-returns
 returns c = let s = c .before .before .before .before in let a = s .args in (
   sym (other-usable (a .v) (a .nb) (a .octets .now) (a .before) _ (c .before .run-at .ensures)
@@ -36,24 +30,9 @@ returns c = let s = c .before .before .before .before in let a = s .args in (
   refl,
 )
 
-add-paint : tie.Need-add-paint
-add-paint c = search needs
-
-slice-aggregate-paint : tie.Need-slice-aggregate-paint
-slice-aggregate-paint c = search needs
-
 paint-requires : tie.Need-paint-requires
 paint-requires c κs = let s = c .before .before .before .before .before .before in let a = s .args in
     ((omega arith, omega arith, over-opens (a .v) (a .nb) (a .octets .now) (a .before) (sym (c .before .enum-told .given .1) ∙ c .before .before .before .run-at .ensures)), (omega arith, omega arith))
-
-slice-aggregate-carry : tie.Need-slice-aggregate-carry
-slice-aggregate-carry c = search needs
-
-carry-requires : tie.Need-carry-requires
-carry-requires c κs = search needs
-
-same-length : tie.Need-same-length
-same-length c = search needs
 
 returns-2 : tie.Need-returns-2
 returns-2 c = let s = c .before .before .before .before .before .before .before .before .before .before .before .before .before .before in let a = s .args in
@@ -71,16 +50,5 @@ returns-3 c = let s = c .before .before .before .before .before .before .before 
 
 pub levels-in-spec : {M : Type 1} → statement M
 levels-in-spec =
-    tie.close
-    (tie.spec
-    run-at-requires
-    enum-told
-    returns
-    add-paint
-    slice-aggregate-paint
-    paint-requires
-    slice-aggregate-carry
-    carry-requires
-    same-length
-    returns-2
-    returns-3)
+    tie.close (tie.spec (search needs) (search needs) returns (search needs) (search needs) paint-requires
+    (search needs) (search needs) (search needs) returns-2 returns-3)

@@ -64,9 +64,6 @@ returns c = let h = c .before .before in let s = start h in
 shared-slice-read-level : tie.Need-shared-slice-read-level Inv-loop μ-loop
 shared-slice-read-level c = c .before .if1 .left
 
-sub-run-upto : tie.Need-sub-run-upto Inv-loop μ-loop
-sub-run-upto c = search needs
-
 run-upto-requires : tie.Need-run-upto-requires Inv-loop μ-loop
 run-upto-requires c κs = let h = c .before .before .before in let s = start h in
     let want = c .before .before .loop-test .taken in
@@ -74,12 +71,6 @@ run-upto-requires c κs = let h = c .before .before .before in let s = start h i
 
 add-to : tie.Need-add-to Inv-loop μ-loop
 add-to c = record { fits = omega (arith, past (c .before) .1, c .before .before .before .before .before .before .before .before .pre .0 .1) }
-
-excess-requires : tie.Need-excess-requires Inv-loop μ-loop
-excess-requires c κs = search needs
-
-excess-requires-2 : tie.Need-excess-requires-2 Inv-loop μ-loop
-excess-requires-2 c κs = search needs
 
 stamp-requires : tie.Need-stamp-requires Inv-loop μ-loop
 stamp-requires c κs = let p = past (c .before .before .before .before) in let h = c .before .before .before .before .before .before .before .before in
@@ -116,21 +107,6 @@ returns-2 c = let h = c .before in let s = start h in
 
 pub paint-spec : {M : Type 1} → statement M
 paint-spec =
-    tie.close
-    (tie.spec
-    Inv-loop
-    μ-loop
-    loop-holds
-    same-length
-    returns
-    shared-slice-read-level
-    sub-run-upto
-    run-upto-requires
-    add-to
-    excess-requires
-    excess-requires-2
-    stamp-requires
-    loop-less
-    loop-again
-    same-length-2
+    tie.close (tie.spec Inv-loop μ-loop loop-holds same-length returns shared-slice-read-level (search needs)
+    run-upto-requires add-to (search needs) (search needs) stamp-requires loop-less loop-again same-length-2
     returns-2)

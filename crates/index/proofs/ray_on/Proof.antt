@@ -65,17 +65,5 @@ returns c = let s = c .before .before .before .before in let l = c .before .befo
 
 pub ray-on-spec : {M : Type 1} → statement M
 ray-on-spec =
-    tie.close
-    (tie.spec
-    Inv-loop
-    μ-loop
-    loop-holds
-    known-run-requires
-    add-end
-    loop-less
-    loop-again
-    cast-t11
-    sub-t12
-    cast-t13
-    add-t15
-    returns)
+    tie.close (tie.spec Inv-loop μ-loop loop-holds known-run-requires add-end loop-less loop-again cast-t11
+    sub-t12 cast-t13 add-t15 returns)

@@ -26,9 +26,6 @@ returns c = let s = c .before .before .before .before in let l = c .before .befo
     let few : length (levels (s .args .v) (s .args .octets .now)) < s .args .want = omega (arith, none-here (s .args .v) (s .args .octets .now) (l .at) (l .bins) (l .inv .2 (omega arith)) (omega arith)) in
     sym (lt-leb _ _ few)
 
-sub-run-upto : tie.Need-sub-run-upto Inv-loop μ-loop
-sub-run-upto c = search needs
-
 run-upto-requires : tie.Need-run-upto-requires Inv-loop μ-loop
 run-upto-requires c κs = let s = c .before .before .before .before in let l = c .before .before .loop in
     let k = l .inv .2 (omega arith) in
@@ -57,15 +54,5 @@ returns-2 c = let s = c .before .before .before in let enough : s .args .want �
 
 pub reaches-spec : {M : Type 1} → statement M
 reaches-spec =
-    tie.close
-    (tie.spec
-    Inv-loop
-    μ-loop
-    loop-holds
-    returns
-    sub-run-upto
-    run-upto-requires
-    add-bins
-    loop-less
-    loop-again
-    returns-2)
+    tie.close (tie.spec Inv-loop μ-loop loop-holds returns (search needs) run-upto-requires add-bins loop-less
+    loop-again returns-2)

@@ -27,24 +27,12 @@ size c =
 returns : tie.Need-returns Inv-loop μ-loop
 returns c = row-none (c .before .args .out .now) (c .before .args .lo) (c .before .args .hi) (c .before .args .octet) (c .if1 .taken)
 
-slice-write-out : tie.Need-slice-write-out Inv-loop μ-loop
-slice-write-out c = search needs
-
-add-i : tie.Need-add-i Inv-loop μ-loop
-add-i c = search needs
-
 loop-holds : tie.Need-loop-holds Inv-loop μ-loop
 loop-holds c = let a = c .before .args in
     (omega arith, omega arith, row-one (a .out .now) (a .lo) (a .octet) (omega arith))
 
 slice-write-out-2 : tie.Need-slice-write-out-2 Inv-loop μ-loop
 slice-write-out-2 c = omega (arith, size (c .before))
-
-add-i-2 : tie.Need-add-i-2 Inv-loop μ-loop
-add-i-2 c = search needs
-
-loop-less : tie.Need-loop-less Inv-loop μ-loop
-loop-less c = search needs
 
 loop-again : tie.Need-loop-again Inv-loop μ-loop
 loop-again c = let a = c .before .before .before .args in
@@ -61,17 +49,5 @@ returns-2 c = let a = c .before .before .before .args in
 
 pub stamp-spec : {M : Type 1} → statement M
 stamp-spec =
-    tie.close
-    (tie.spec
-    Inv-loop
-    μ-loop
-    returns
-    slice-write-out
-    add-i
-    loop-holds
-    slice-write-out-2
-    add-i-2
-    loop-less
-    loop-again
-    same-length
-    returns-2)
+    tie.close (tie.spec Inv-loop μ-loop returns (search needs) (search needs) loop-holds slice-write-out-2
+    (search needs) (search needs) loop-again same-length returns-2)

@@ -34,9 +34,6 @@ mul-z c = let s = c .before .before in scaled-fits _ (length (s .args .values .n
 slice-set-from-z : tie.Need-slice-set-from-z Inv-loop μ-loop
 slice-set-from-z c = omega (arith, size (c .before), c .loop-test .taken, c .before .before .pre .1)
 
-add-i : tie.Need-add-i Inv-loop μ-loop
-add-i c = omega arith
-
 loop-less : tie.Need-loop-less Inv-loop μ-loop
 loop-less c = omega (arith, c .loop-test .taken)
 
@@ -61,15 +58,5 @@ returns c = let a = c .before .before .args in
 
 pub stamp-number-spec : {M : Type 1} → statement M
 stamp-number-spec =
-    tie.close
-    (tie.spec
-    Inv-loop
-    μ-loop
-    loop-holds
-    mul-z
-    slice-set-from-z
-    add-i
-    loop-less
-    loop-again
-    same-length
-    returns)
+    tie.close (tie.spec Inv-loop μ-loop loop-holds mul-z slice-set-from-z (λ c. omega arith) loop-less
+    loop-again same-length returns)

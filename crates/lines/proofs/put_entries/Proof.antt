@@ -30,12 +30,6 @@ put-entry-requires c κs = (omega (arith, c .before .before .before .before .bef
 add-i : tie.Need-add-i Inv-loop μ-loop
 add-i c = record { fits = omega (arith, c .before .before .before .before .before .before .before .before .pre .0) }
 
-sub-left : tie.Need-sub-left Inv-loop μ-loop
-sub-left c = omega arith
-
-loop-less : tie.Need-loop-less Inv-loop μ-loop
-loop-less c = omega arith
-
 loop-again : tie.Need-loop-again Inv-loop μ-loop
 loop-again c = let e = c .before .before .put-entry in
     let l = c .before .before .before .before .before .loop in
@@ -54,15 +48,5 @@ returns c = let l = c .before .loop in
 
 pub put-entries-spec : {M : Type 1} → statement M
 put-entries-spec =
-    tie.close
-    (tie.spec
-    Inv-loop
-    μ-loop
-    loop-holds
-    put-entry-requires
-    add-i
-    sub-left
-    loop-less
-    loop-again
-    same-length
-    returns)
+    tie.close (tie.spec Inv-loop μ-loop loop-holds put-entry-requires add-i (λ c. omega arith)
+    (λ c. omega arith) loop-again same-length returns)

@@ -5,45 +5,6 @@ use borrow.Author.Needs.{needs}
 use Rattle.lines.proofs.put_head.Statement.{statement}
 use Rattle.lines.proofs.put_head.Tie as tie
 
-slice-aggregate-put-named : tie.Need-slice-aggregate-put-named
-slice-aggregate-put-named c = search needs
-
-put-named-requires : tie.Need-put-named-requires
-put-named-requires c κs = search needs
-
-slice-aggregate-put-named-2 : tie.Need-slice-aggregate-put-named-2
-slice-aggregate-put-named-2 c = search needs
-
-put-named-requires-2 : tie.Need-put-named-requires-2
-put-named-requires-2 c κs = search needs
-
-slice-aggregate-put-named-3 : tie.Need-slice-aggregate-put-named-3
-slice-aggregate-put-named-3 c = search needs
-
-put-named-requires-3 : tie.Need-put-named-requires-3
-put-named-requires-3 c κs = search needs
-
-slice-aggregate-put-named-4 : tie.Need-slice-aggregate-put-named-4
-slice-aggregate-put-named-4 c = search needs
-
-put-named-requires-4 : tie.Need-put-named-requires-4
-put-named-requires-4 c κs = search needs
-
-slice-aggregate-put-named-5 : tie.Need-slice-aggregate-put-named-5
-slice-aggregate-put-named-5 c = search needs
-
-put-named-requires-5 : tie.Need-put-named-requires-5
-put-named-requires-5 c κs = search needs
-
-slice-aggregate-put-octets : tie.Need-slice-aggregate-put-octets
-slice-aggregate-put-octets c = search needs
-
-put-octets-requires : tie.Need-put-octets-requires
-put-octets-requires c κs = search needs
-
-same-length : tie.Need-same-length
-same-length c = search needs
-
 returns : tie.Need-returns
 unfolding headLine
 returns c = let e = c .before .before .before .before .before .before .before in
@@ -57,19 +18,6 @@ returns c = let e = c .before .before .before .before .before .before .before in
 
 pub put-head-spec : {M : Type 1} → statement M
 put-head-spec =
-    tie.close
-    (tie.spec
-    slice-aggregate-put-named
-    put-named-requires
-    slice-aggregate-put-named-2
-    put-named-requires-2
-    slice-aggregate-put-named-3
-    put-named-requires-3
-    slice-aggregate-put-named-4
-    put-named-requires-4
-    slice-aggregate-put-named-5
-    put-named-requires-5
-    slice-aggregate-put-octets
-    put-octets-requires
-    same-length
-    returns)
+    tie.close (tie.spec (search needs) (search needs) (search needs) (search needs) (search needs)
+    (search needs) (search needs) (search needs) (search needs) (search needs) (search needs) (search needs)
+    (search needs) returns)

@@ -6,14 +6,8 @@ use borrow.Author.Needs.{needs}
 use Rattle.lines.proofs.put_named.Statement.{statement}
 use Rattle.lines.proofs.put_named.Tie as tie
 
-put-octets-requires : tie.Need-put-octets-requires
-put-octets-requires c κs = search needs
-
 put-decimal-requires : tie.Need-put-decimal-requires
 put-decimal-requires c κs = omega (arith, twenty (c .before .before .before .before .before .before .before .args .n) (omega (arith, c .before .before .before .before .before .before .before .fits)), c .before .before .before .put-octets .ensures .past, c .before .before .before .put-octets .kept .0)
-
-same-length : tie.Need-same-length
-same-length c = search needs
 
 returns : tie.Need-returns
 returns c = let s = c .before .before .before .before .before .before .before .before .before .before in
@@ -23,4 +17,4 @@ returns c = let s = c .before .before .before .before .before .before .before .b
     (then (p .ensures) (n .ensures), omega (arith, p .ensures .past, n .ensures .past))
 
 pub put-named-spec : {M : Type 1} → statement M
-put-named-spec = tie.close (tie.spec put-octets-requires put-decimal-requires same-length returns)
+put-named-spec = tie.close (tie.spec (search needs) put-decimal-requires (search needs) returns)

@@ -16,13 +16,6 @@ Inv-loop number base m₀ n₀ m n = n + length (digitsOf base m) ≡ length (di
 abbrev μ-loop : tie.MeasureT-loop
 μ-loop number base m₀ n₀ m n = m
 
-loop-holds : tie.Need-loop-holds Inv-loop μ-loop
-loop-holds c =
-    omega arith
-
-div-m : tie.Need-div-m Inv-loop μ-loop
-div-m c = search needs
-
 add-n : tie.Need-add-n Inv-loop μ-loop
 add-n c =
     let a = c .before .before .args in
@@ -46,4 +39,4 @@ returns c =
 
 pub digit-count-spec : {M : Type 1} → statement M
 digit-count-spec =
-    tie.close (tie.spec Inv-loop μ-loop loop-holds div-m add-n loop-less loop-again returns)
+    tie.close (tie.spec Inv-loop μ-loop (λ c. omega arith) (search needs) add-n loop-less loop-again returns)

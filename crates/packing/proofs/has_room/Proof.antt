@@ -15,11 +15,8 @@ returns : tie.Need-returns
 returns c = let a = c .before .before .args in
     sym (le-leb (length (written (a .v) (a .levels .now))) (a .room) (omega (arith, written-short (a .v) (a .levels .now))))
 
-measure-requires : tie.Need-measure-requires
-measure-requires c κs = search needs
-
 returns-2 : tie.Need-returns-2
 returns-2 c = ap (λ (n : ℕ). leb n (c .before .before .before .args .room)) (c .measure .ensures)
 
 pub has-room-spec : {M : Type 1} → statement M
-has-room-spec = tie.close (tie.spec returns measure-requires returns-2)
+has-room-spec = tie.close (tie.spec returns (search needs) returns-2)

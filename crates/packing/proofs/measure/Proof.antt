@@ -19,37 +19,16 @@ returns : tie.Need-returns Inv-loop μ-loop
 returns c =
     sym (ap length (written-empty (c .before .before .args .v) (c .before .before .args .levels .now) (c .if1 .taken)))
 
-sub-base : tie.Need-sub-base Inv-loop μ-loop
-sub-base c = search needs
-
-shared-slice-read-x : tie.Need-shared-slice-read-x Inv-loop μ-loop
-shared-slice-read-x c = search needs
-
 loop-holds : tie.Need-loop-holds Inv-loop μ-loop
 loop-holds c =
     let a = c .before .before .before .args in
     (omega arith, omega arith, omega (arith, ap length (written-start (a .v) (a .levels .now) (omega arith))))
-
-shared-slice-read-y : tie.Need-shared-slice-read-y Inv-loop μ-loop
-shared-slice-read-y c = search needs
-
-add-i : tie.Need-add-i Inv-loop μ-loop
-add-i c = search needs
-
-add-k : tie.Need-add-k Inv-loop μ-loop
-add-k c = search needs
-
-loop-less : tie.Need-loop-less Inv-loop μ-loop
-loop-less c = search needs
 
 loop-again : tie.Need-loop-again Inv-loop μ-loop
 loop-again c =
     let a = c .before .before .before .before .before .before .before .args in
     let l = c .before .before .before .loop in
     (omega arith, omega arith, omega (arith, l .inv .2, ap length (on-same (a .v) (l .x) (l .k) (a .levels .now) (l .i) (omega arith) (c .if2 .taken))))
-
-digit-count-requires : tie.Need-digit-count-requires Inv-loop μ-loop
-digit-count-requires c κs = search needs
 
 add-total : tie.Need-add-total Inv-loop μ-loop
 add-total c =
@@ -63,9 +42,6 @@ add-total-2 c =
     let l = c .before .before .before .before .loop in
     record { fits = omega (arith, c .digit-count .ensures, digits-short (255 - a .v) (l .k)) }
 
-loop-less-2 : tie.Need-loop-less-2 Inv-loop μ-loop
-loop-less-2 c = search needs
-
 loop-again-2 : tie.Need-loop-again-2 Inv-loop μ-loop
 loop-again-2 c =
     let a = c .before .before .before .before .before .before .before .before .args in
@@ -75,13 +51,6 @@ loop-again-2 c =
       omega (arith, c .digit-count .ensures, digits-short (255 - a .v) (l .k)),
       omega (arith, l .inv .2, c .digit-count .ensures, digits-short (255 - a .v) (l .k), ap length (on-other (a .v) (l .x) (l .k) (a .levels .now) (l .i) (omega arith) (c .before .if2 .left)), length-append (code (a .v) (l .x) (l .k)) (onFrom (a .v) y 0 (drop (l .i + 1) (a .levels .now))), code-length (a .v) (l .x) (l .k)),
     )
-
-add-result : tie.Need-add-result Inv-loop μ-loop
-add-result c =
-    search needs
-
-digit-count-requires-2 : tie.Need-digit-count-requires-2 Inv-loop μ-loop
-digit-count-requires-2 c κs = search needs
 
 add-result-2 : tie.Need-add-result-2 Inv-loop μ-loop
 add-result-2 c =
@@ -97,25 +66,6 @@ returns-2 c =
 
 pub measure-spec : {M : Type 1} → statement M
 measure-spec =
-    tie.close
-    (tie.spec
-    Inv-loop
-    μ-loop
-    returns
-    sub-base
-    shared-slice-read-x
-    loop-holds
-    shared-slice-read-y
-    add-i
-    add-k
-    loop-less
-    loop-again
-    digit-count-requires
-    add-total
-    add-total-2
-    loop-less-2
-    loop-again-2
-    add-result
-    digit-count-requires-2
-    add-result-2
-    returns-2)
+    tie.close (tie.spec Inv-loop μ-loop returns (search needs) (search needs) loop-holds (search needs)
+    (search needs) (search needs) (search needs) loop-again (search needs) add-total add-total-2 (search needs)
+    loop-again-2 (search needs) (search needs) add-result-2 returns-2)

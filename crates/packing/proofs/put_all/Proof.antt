@@ -31,25 +31,10 @@ returns c =
     let none = sym (written-empty (a .v) (a .levels .now) (c .if1 .taken)) in
     (ap length none, ap (λ (l : List ℕ). front l (a .out .now)) none)
 
-shared-slice-read-x : tie.Need-shared-slice-read-x Inv-loop μ-loop
-shared-slice-read-x c = search needs
-
 loop-holds : tie.Need-loop-holds Inv-loop μ-loop
 loop-holds c =
     let a = c .before .before .before .before .args in
     (omega arith, omega arith, omega arith, written-start (a .v) (a .levels .now) (omega arith), refl)
-
-shared-slice-read-y : tie.Need-shared-slice-read-y Inv-loop μ-loop
-shared-slice-read-y c = search needs
-
-add-i : tie.Need-add-i Inv-loop μ-loop
-add-i c = search needs
-
-add-k : tie.Need-add-k Inv-loop μ-loop
-add-k c = search needs
-
-loop-less : tie.Need-loop-less Inv-loop μ-loop
-loop-less c = search needs
 
 loop-again : tie.Need-loop-again Inv-loop μ-loop
 loop-again c =
@@ -63,9 +48,6 @@ put-run-requires c κs =
     let l = c .before .before .before .before .loop in
     let next = l .inv .3 ∙ on-other (a .v) (l .x) (l .k) (a .levels .now) (l .i) (omega arith) (c .before .if2 .left) in
     (omega arith, omega arith, omega (arith, size (c .before .before .before .before), next-fits (written (a .v) (a .levels .now)) (l .at) (code (a .v) (l .x) (l .k)) _ next (l .inv .2)))
-
-loop-less-2 : tie.Need-loop-less-2 Inv-loop μ-loop
-loop-less-2 c = search needs
 
 loop-again-2 : tie.Need-loop-again-2 Inv-loop μ-loop
 loop-again-2 c =
@@ -115,21 +97,6 @@ returns-2 c =
 
 pub put-all-spec : {M : Type 1} → statement M
 put-all-spec =
-    tie.close
-    (tie.spec
-    Inv-loop
-    μ-loop
-    returns
-    shared-slice-read-x
-    loop-holds
-    shared-slice-read-y
-    add-i
-    add-k
-    loop-less
-    loop-again
-    put-run-requires
-    loop-less-2
-    loop-again-2
-    put-run-requires-2
-    same-length
-    returns-2)
+    tie.close (tie.spec Inv-loop μ-loop returns (search needs) loop-holds (search needs) (search needs)
+    (search needs) (search needs) loop-again put-run-requires (search needs) loop-again-2 put-run-requires-2
+    same-length returns-2)

@@ -35,17 +35,9 @@ size c =
 next : (c : tie.In-loop Inv-loop μ-loop) → drop (c .before .loop .j - c .before .before .args .at) (code (c .before .before .args .v) (c .before .before .args .x) (c .before .before .args .k)) ≡ (c .before .before .args .v + 1 + c .before .loop .m % (255 - c .before .before .args .v)) ∷ octetsOf (c .before .before .args .v) (digitsOf (255 - c .before .before .args .v) (c .before .loop .m / (255 - c .before .before .args .v)))
 next c = c .before .loop .inv .3 ∙ octets-more (c .before .before .args .v) (c .before .loop .m) (omega arith) (omega arith)
 
-sub-base : tie.Need-sub-base Inv-loop μ-loop
-sub-base c =
-    search needs
-
 slice-write-out : tie.Need-slice-write-out Inv-loop μ-loop
 slice-write-out c =
     omega (arith, c .pre .2, code-length (c .args .v) (c .args .x) (c .args .k))
-
-add-j : tie.Need-add-j Inv-loop μ-loop
-add-j c =
-    search needs
 
 loop-holds : tie.Need-loop-holds Inv-loop μ-loop
 loop-holds c =
@@ -57,14 +49,6 @@ loop-holds c =
       first-put (a .out .now) (a .at) (a .x) (omega (arith, c .pre .2, code-length (a .v) (a .x) (a .k))) ∙ ap (λ (l : List ℕ). placed (set (a .out .now) (a .at) (a .x)) (a .at) l) (sym (ap (λ (n : ℕ). take n W) one ∙ ap (λ (l : List ℕ). take 1 l) (code-is (a .v) (a .x) (a .k)))),
       ap (λ (n : ℕ). drop n W) one ∙ ap (λ (l : List ℕ). drop 1 l) (code-is (a .v) (a .x) (a .k)),
     )
-
-add-out : tie.Need-add-out Inv-loop μ-loop
-add-out c =
-    search needs
-
-rem-out : tie.Need-rem-out Inv-loop μ-loop
-rem-out c =
-    search needs
 
 cast-out : tie.Need-cast-out Inv-loop μ-loop
 cast-out c =
@@ -81,10 +65,6 @@ slice-write-out-2 c =
     let a = c .before .before .args in
     let l = c .before .loop in
     omega (arith, size (c .before), one-fits (set (a .out .now) (a .at) (a .x)) (code (a .v) (a .x) (a .k)) (a .at) (l .j) _ _ (omega arith) (next c) (omega arith) (omega (arith, length-set (a .out .now) (a .at) (a .x))))
-
-div-m : tie.Need-div-m Inv-loop μ-loop
-div-m c =
-    search needs
 
 add-j-2 : tie.Need-add-j-2 Inv-loop μ-loop
 add-j-2 c =
@@ -126,22 +106,6 @@ returns c =
 
 pub put-run-spec : {M : Type 1} → statement M
 put-run-spec =
-    tie.close
-    (tie.spec
-    Inv-loop
-    μ-loop
-    sub-base
-    slice-write-out
-    add-j
-    loop-holds
-    add-out
-    rem-out
-    cast-out
-    add-out-2
-    slice-write-out-2
-    div-m
-    add-j-2
-    loop-less
-    loop-again
-    same-length
+    tie.close (tie.spec Inv-loop μ-loop (search needs) slice-write-out (search needs) loop-holds (search needs)
+    (search needs) cast-out add-out-2 slice-write-out-2 (search needs) add-j-2 loop-less loop-again same-length
     returns)

@@ -16,23 +16,8 @@ Inv-loop octets v at base i₀ len₀ weight₀ i len weight = (i ≤ length oct
 abbrev μ-loop : tie.MeasureT-loop
 μ-loop octets v at base i₀ len₀ weight₀ i len weight = length octets - i
 
-sub-base : tie.Need-sub-base Inv-loop μ-loop
-sub-base c = search needs
-
-add-i : tie.Need-add-i Inv-loop μ-loop
-add-i c = search needs
-
 loop-holds : tie.Need-loop-holds Inv-loop μ-loop
 loop-holds c = (omega arith, omega arith, still-start (c .args .v) (c .args .octets .now) (c .args .at))
-
-shared-slice-read-o : tie.Need-shared-slice-read-o Inv-loop μ-loop
-shared-slice-read-o c = search needs
-
-sub-len : tie.Need-sub-len Inv-loop μ-loop
-sub-len c = search needs
-
-sub-len-2 : tie.Need-sub-len-2 Inv-loop μ-loop
-sub-len-2 c = search needs
 
 cast-len : tie.Need-cast-len Inv-loop μ-loop
 cast-len c = omega (arith, c .before .shared-slice-known .given (c .before .before .before .loop .i))
@@ -47,25 +32,16 @@ add-len c = let a = c .before .before .before .before .args in
     let l = c .before .before .before .loop in
     record { fits = omega (arith, still-short (l .inv .2), product (2097152 * 255) (getD (a .octets .now) (l .i) 0 - a .v - 1) (l .weight) (omega (arith, c .before .shared-slice-known .given (l .i))) (omega arith)) }
 
-add-i-2 : tie.Need-add-i-2 Inv-loop μ-loop
-add-i-2 c = search needs
-
 mul-weight : tie.Need-mul-weight Inv-loop μ-loop
 mul-weight c = let a = c .before .before .before .before .before .args in
     let l = c .before .before .before .before .loop in
     record { fits = omega (arith, mul-le-mul {n₁ = l .weight} {m₁ = 255 - a .v} {n₂ = 2097152} {m₂ = 255} (omega arith) (omega arith)) }
-
-loop-less : tie.Need-loop-less Inv-loop μ-loop
-loop-less c = search needs
 
 loop-again : tie.Need-loop-again Inv-loop μ-loop
 loop-again c = let a = c .before .before .before .before .before .args in
     let l = c .before .before .before .before .loop in
     let small : l .weight ≤ 2097152 = omega arith in
     (omega arith, omega (arith, mul-le-mul {n₁ = l .weight} {m₁ = 255 - a .v} {n₂ = 2097152} {m₂ = 255} (omega arith) (omega arith)), (simp (le-leb _ _ small) at (still-more (l .inv .2) (omega arith) (omega arith) (omega arith) (omega arith))))
-
-loop-less-2 : tie.Need-loop-less-2 Inv-loop μ-loop
-loop-less-2 c = search needs
 
 loop-again-2 : tie.Need-loop-again-2 Inv-loop μ-loop
 loop-again-2 c = let l = c .before .before .before .before .loop in
@@ -80,24 +56,6 @@ returns-2 c = still-stop (c .before .before .before .loop .inv .2) (omega arith)
 
 pub known-run-spec : {M : Type 1} → statement M
 known-run-spec =
-    tie.close
-    (tie.spec
-    Inv-loop
-    μ-loop
-    sub-base
-    add-i
-    loop-holds
-    shared-slice-read-o
-    sub-len
-    sub-len-2
-    cast-len
-    mul-len
-    add-len
-    add-i-2
-    mul-weight
-    loop-less
-    loop-again
-    loop-less-2
-    loop-again-2
-    returns
-    returns-2)
+    tie.close (tie.spec Inv-loop μ-loop (search needs) (search needs) loop-holds (search needs) (search needs)
+    (search needs) cast-len mul-len add-len (search needs) mul-weight (search needs) loop-again (search needs)
+    loop-again-2 returns returns-2)

@@ -6,9 +6,6 @@ use Rattle.runs.proofs.Here.{Stands, stands-holding, here-inside, here-
 use Rattle.runs.proofs.level_at.Statement.{statement}
 use Rattle.runs.proofs.level_at.Tie as tie
 
-seek-requires : tie.Need-seek-requires
-seek-requires c κs = search needs
-
 stands : (c : tie.After-seek) → let s = c .before .before .args in Stands (s .v) (s .octets .now) (c .seek .result .at) (c .seek .result .bins)
 stands c = let s = c .before .before in stands-holding (s .args .v) (s .args .octets .now) (s .args .a) (c .seek .result) (s .pre .1) (c .seek .ensures)
 
@@ -22,4 +19,4 @@ returns c = let s = c .before .before .before in
     sym (here-level (s .args .v) (s .args .octets .now) (c .before .seek .result .at) (c .before .seek .result .bins) (stands (c .before)) (omega (arith, h .before, s .pre .1)) (s .args .a) (h .before) (h .inside))
 
 pub level-at-spec : {M : Type 1} → statement M
-level-at-spec = tie.close (tie.spec seek-requires shared-slice-read-result returns)
+level-at-spec = tie.close (tie.spec (λ c κs. search needs) shared-slice-read-result returns)

@@ -69,15 +69,6 @@ known-run-requires c κs = let h = c .before .before in
 add-end : tie.Need-add-end Inv-loop μ-loop
 add-end c = record { fits = omega (arith, past (c .before) .1 .within, start (c .before .before .before .before) .pre .0 .2) }
 
-excess-requires : tie.Need-excess-requires Inv-loop μ-loop
-excess-requires c κs = search needs
-
-lesser-requires : tie.Need-lesser-requires Inv-loop μ-loop
-lesser-requires c κs = search needs
-
-excess-requires-2 : tie.Need-excess-requires-2 Inv-loop μ-loop
-excess-requires-2 c κs = search needs
-
 stamp-requires : tie.Need-stamp-requires Inv-loop μ-loop
 stamp-requires c κs =
     let p = past (c .before .before .before .before .before) in
@@ -117,21 +108,6 @@ returns-2 c = let h = c .before in
 
 pub levels-into-spec : {M : Type 1} → statement M
 levels-into-spec =
-    tie.close
-    (tie.spec
-    Inv-loop
-    μ-loop
-    returns
-    seek-requires
-    loop-holds
-    shared-slice-read-level
-    known-run-requires
-    add-end
-    excess-requires
-    lesser-requires
-    excess-requires-2
-    stamp-requires
-    loop-less
-    loop-again
-    same-length
-    returns-2)
+    tie.close (tie.spec Inv-loop μ-loop returns seek-requires loop-holds shared-slice-read-level
+    known-run-requires add-end (search needs) (search needs) (search needs) stamp-requires loop-less loop-again
+    same-length returns-2)

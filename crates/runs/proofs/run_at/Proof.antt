@@ -22,9 +22,6 @@ returns : tie.Need-returns Inv-loop μ-loop
 returns c =
     stepAt-end (c .before .args .v) (c .before .args .cap) (c .before .args .octets .now) (c .before .args .at) (c .if1 .taken)
 
-shared-slice-read-level : tie.Need-shared-slice-read-level Inv-loop μ-loop
-shared-slice-read-level c = search needs
-
 returns-2 : tie.Need-returns-2 Inv-loop μ-loop
 returns-2 c =
     let a = c .before .before .before .args in
@@ -35,25 +32,10 @@ returns-3 c =
     let a = c .before .before .before .before .args in
     run-zero (a .v) (a .cap) (getD (a .octets .now) (a .at) 0) (a .at) (a .octets .now) (omega arith) ∙ stepAt-run (a .v) (a .cap) (a .octets .now) (a .at) (omega arith) (omega arith)
 
-sub-base : tie.Need-sub-base Inv-loop μ-loop
-sub-base c = search needs
-
-add-i : tie.Need-add-i Inv-loop μ-loop
-add-i c = search needs
-
 loop-holds : tie.Need-loop-holds Inv-loop μ-loop
 loop-holds c =
     let a = c .before .before .before .before .args in
     (omega arith, omega arith, omega arith, run-start (a .v) (a .cap) (omega arith) (getD (a .octets .now) (a .at) 0) (a .at) (a .octets .now) (omega arith) ∙ stepAt-run (a .v) (a .cap) (a .octets .now) (a .at) (omega arith) (omega arith))
-
-shared-slice-read-o : tie.Need-shared-slice-read-o Inv-loop μ-loop
-shared-slice-read-o c = search needs
-
-sub-len : tie.Need-sub-len Inv-loop μ-loop
-sub-len c = search needs
-
-sub-len-2 : tie.Need-sub-len-2 Inv-loop μ-loop
-sub-len-2 c = search needs
 
 cast-len : tie.Need-cast-len Inv-loop μ-loop
 cast-len c =
@@ -77,17 +59,11 @@ returns-4 c =
     let d = c .before .before .before .before .loop in
     go-over (a .v) (a .cap) (getD (a .octets .now) (a .at) 0) (d .len) (d .weight) (d .i) (a .octets .now) _ (omega arith) (omega arith) (omega arith) (d .inv .3)
 
-add-i-2 : tie.Need-add-i-2 Inv-loop μ-loop
-add-i-2 c = search needs
-
 mul-weight : tie.Need-mul-weight Inv-loop μ-loop
 mul-weight c =
     let a = c .before .before .before .before .before .before .before .before .before .before .args in
     let d = c .before .before .before .before .before .loop in
     record { fits = omega (arith, mul-le-mul {n₁ = d .weight} {m₁ = 255 - a .v} {n₂ = 1099511627775} {m₂ = 255} (omega arith) (omega arith)) }
-
-loop-less : tie.Need-loop-less Inv-loop μ-loop
-loop-less c = search needs
 
 loop-again : tie.Need-loop-again Inv-loop μ-loop
 loop-again c =
@@ -95,9 +71,6 @@ loop-again c =
     let d = c .before .before .before .before .before .loop in
     let small : d .weight ≤ a .cap = omega arith in
     (omega arith, omega arith, omega (arith, mul-le-mul {n₁ = d .weight} {m₁ = 255 - a .v} {n₂ = 1099511627775} {m₂ = 255} (omega arith) (omega arith)), (simp (le-leb _ _ small) at (go-digit (a .v) (a .cap) (getD (a .octets .now) (a .at) 0) (d .len) (d .weight) (d .i) (a .octets .now) _ (omega arith) (omega arith) (omega arith) (d .inv .3))))
-
-loop-less-2 : tie.Need-loop-less-2 Inv-loop μ-loop
-loop-less-2 c = search needs
 
 loop-again-2 : tie.Need-loop-again-2 Inv-loop μ-loop
 loop-again-2 c =
@@ -120,29 +93,6 @@ returns-6 c =
 
 pub run-at-spec : {M : Type 1} → statement M
 run-at-spec =
-    tie.close
-    (tie.spec
-    Inv-loop
-    μ-loop
-    returns
-    shared-slice-read-level
-    returns-2
-    returns-3
-    sub-base
-    add-i
-    loop-holds
-    shared-slice-read-o
-    sub-len
-    sub-len-2
-    cast-len
-    mul-len
-    add-len
-    returns-4
-    add-i-2
-    mul-weight
-    loop-less
-    loop-again
-    loop-less-2
-    loop-again-2
-    returns-5
-    returns-6)
+    tie.close (tie.spec Inv-loop μ-loop returns (search needs) returns-2 returns-3 (search needs) (search needs)
+    loop-holds (search needs) (search needs) (search needs) cast-len mul-len add-len returns-4 (search needs)
+    mul-weight (search needs) loop-again (search needs) loop-again-2 returns-5 returns-6)

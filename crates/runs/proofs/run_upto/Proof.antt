@@ -8,12 +8,6 @@ use Rattle.runs.proofs.Upto.{cut-run, cut-over}
 use Rattle.runs.proofs.run_upto.Statement.{statement}
 use Rattle.runs.proofs.run_upto.Tie as tie
 
-run-at-requires : tie.Need-run-at-requires
-run-at-requires c κs = search needs
-
-enum-known-step : tie.Need-enum-known-step
-enum-known-step c = search needs
-
 returns : tie.Need-returns
 returns c = let s = c .before .before .before .before .before in
     let a = s .args in
@@ -28,4 +22,4 @@ returns-2 c = let s = c .before .before .before in
     (omega arith, λ short. absurd (omega arith))
 
 pub run-upto-spec : {M : Type 1} → statement M
-run-upto-spec = tie.close (tie.spec run-at-requires enum-known-step returns returns-2)
+run-upto-spec = tie.close (tie.spec (search needs) (search needs) returns returns-2)

@@ -38,40 +38,19 @@ returns-2 : tie.Need-returns-2 Inv-digits μ-digits Inv-runs μ-runs
 returns-2 c = let a = c .before .before .args in
     sym (none-given (a .v) (a .n) (a .octets .now) (c .before .if1 .taken) ∙ too-few (a .n) (c .if2 .left))
 
-sub-base : tie.Need-sub-base Inv-digits μ-digits Inv-runs μ-runs
-sub-base c = search needs
-
-shared-slice-read-o : tie.Need-shared-slice-read-o Inv-digits μ-digits Inv-runs μ-runs
-shared-slice-read-o c = search needs
-
 runs-holds : tie.Need-runs-holds Inv-digits μ-digits Inv-runs μ-runs
 runs-holds c = let s = c .before .before in
     (omega arith, omega arith, refl, atRun-right (s .args .v) (omega arith) (s .args .n) (s .args .octets .now) (omega arith))
-
-add-i : tie.Need-add-i Inv-digits μ-digits Inv-runs μ-runs
-add-i c = search needs
-
-shared-slice-read-o-2 : tie.Need-shared-slice-read-o-2 Inv-digits μ-digits Inv-runs μ-runs
-shared-slice-read-o-2 c = search needs
 
 digits-holds : tie.Need-digits-holds Inv-digits μ-digits Inv-runs μ-runs
 digits-holds c = let a = c .before .before .before .before .before .before .before .args in
     let r = c .before .before .before .before .runs in
     (omega arith, omega arith, omega arith, omega arith, refl, level-step (a .v) (r .left) (a .octets .now) (r .i) (r .o) _ (r .inv .0) (r .inv .2) (omega arith) (omega arith) (r .inv .3))
 
-runs-less : tie.Need-runs-less Inv-digits μ-digits Inv-runs μ-runs
-runs-less c = search needs
-
 runs-again : tie.Need-runs-again Inv-digits μ-digits Inv-runs μ-runs
 runs-again c = let a = c .before .before .before .before .before .before .before .before .before .args in
     let d = c .before .digits in
     (omega arith, omega arith, d .inv .4, digits-level (a .v) (d .left) (d .weight) (a .octets .now) (d .i) (d .o) _ (d .inv .0) (d .inv .4) (omega arith) (d .inv .5))
-
-sub-more : tie.Need-sub-more Inv-digits μ-digits Inv-runs μ-runs
-sub-more c = search needs
-
-sub-more-2 : tie.Need-sub-more-2 Inv-digits μ-digits Inv-runs μ-runs
-sub-more-2 c = search needs
 
 cast-more : tie.Need-cast-more Inv-digits μ-digits Inv-runs μ-runs
 cast-more c = omega (arith, octet c)
@@ -81,28 +60,16 @@ mul-more c = let a = c .before .before .before .before .before .before .before .
     let d = c .before .digits in
     record { fits = omega (arith, product (2097152 * 255) (d .o - a .v - 1) (d .weight) (omega (arith, octet c)) (omega arith)) }
 
-add-i-2 : tie.Need-add-i-2 Inv-digits μ-digits Inv-runs μ-runs
-add-i-2 c = search needs
-
-shared-slice-read-o-3 : tie.Need-shared-slice-read-o-3 Inv-digits μ-digits Inv-runs μ-runs
-shared-slice-read-o-3 c = search needs
-
 mul-weight : tie.Need-mul-weight Inv-digits μ-digits Inv-runs μ-runs
 mul-weight c = let a = c .before .before .before .before .before .before .before .before .before .before .before .before .before .args in
     let d = c .before .before .before .before .before .digits in
     record { fits = omega (arith, mul-le-mul {n₁ = d .weight} {m₁ = 255 - a .v} {n₂ = 2097152} {m₂ = 255} (omega arith) (omega arith)) }
-
-digits-less : tie.Need-digits-less Inv-digits μ-digits Inv-runs μ-runs
-digits-less c = search needs
 
 digits-again : tie.Need-digits-again Inv-digits μ-digits Inv-runs μ-runs
 digits-again c = let a = c .before .before .before .before .before .before .before .before .before .before .before .before .before .args in
     let d = c .before .before .before .before .before .digits in
     let small : d .weight ≤ 2097152 = omega arith in
     (omega arith, omega arith, omega arith, omega (arith, mul-le-mul {n₁ = d .weight} {m₁ = 255 - a .v} {n₂ = 2097152} {m₂ = 255} (omega arith) (omega arith)), refl, (simp (le-leb _ _ small) at (digit-step (a .v) (d .left) (d .weight) (a .octets .now) (d .i) (d .o) _ (d .inv .0) (d .inv .4) (omega arith) (omega arith) (d .inv .5))))
-
-digits-less-2 : tie.Need-digits-less-2 Inv-digits μ-digits Inv-runs μ-runs
-digits-less-2 c = search needs
 
 digits-again-2 : tie.Need-digits-again-2 Inv-digits μ-digits Inv-runs μ-runs
 digits-again-2 c = let a = c .before .before .before .before .before .before .before .before .before .before .before .before .before .args in
@@ -144,33 +111,7 @@ returns-5 c = ⊎-elim (λ w. sym (w .0)) (λ w. sym (w .1 ∙ too-few _ (c .if9
 
 pub scan-runs-spec : {M : Type 1} → statement M
 scan-runs-spec =
-    tie.close
-    (tie.spec
-    Inv-digits
-    μ-digits
-    Inv-runs
-    μ-runs
-    returns
-    returns-2
-    sub-base
-    shared-slice-read-o
-    runs-holds
-    add-i
-    shared-slice-read-o-2
-    digits-holds
-    runs-less
-    runs-again
-    sub-more
-    sub-more-2
-    cast-more
-    mul-more
-    add-i-2
-    shared-slice-read-o-3
-    mul-weight
-    digits-less
-    digits-again
-    digits-less-2
-    digits-again-2
-    returns-3
-    returns-4
-    returns-5)
+    tie.close (tie.spec Inv-digits μ-digits Inv-runs μ-runs returns returns-2 (search needs) (search needs)
+    runs-holds (search needs) (search needs) digits-holds (search needs) runs-again (search needs)
+    (search needs) cast-more mul-more (search needs) (search needs) mul-weight (search needs) digits-again
+    (search needs) digits-again-2 returns-3 returns-4 returns-5)

@@ -42,5 +42,4 @@ loop-again c = (omega (arith, c .if1 .left), past (c .before .before) .1)
 
 pub seek-spec : {M : Type 1} → statement M
 seek-spec =
-    tie.close
-    (tie.spec Inv-loop μ-loop loop-holds known-run-requires add-end returns loop-less loop-again)
+    tie.close (tie.spec Inv-loop μ-loop loop-holds known-run-requires add-end returns loop-less loop-again)

@@ -10,15 +10,9 @@ use Rattle.scaled.proofs.Right.{scaled-right}
 use Rattle.scaled.proofs.cell_of.Statement.{statement}
 use Rattle.scaled.proofs.cell_of.Tie as tie
 
-all-ones-requires : tie.Need-all-ones-requires
-all-ones-requires c κs = search needs
-
 returns : tie.Need-returns
 unfolding cellOf
 returns c = (simp (eq-eqb _ _ (c .if1 .taken ∙ c .before .all-ones .ensures)), tt)
-
-unpack-requires : tie.Need-unpack-requires
-unpack-requires c κs = search needs
 
 returns-2 : tie.Need-returns-2
 unfolding cellOf
@@ -32,4 +26,4 @@ returns-2 c =
     )
 
 pub cell-of-spec : {M : Type 1} → statement M
-cell-of-spec = tie.close (tie.spec all-ones-requires returns unpack-requires returns-2)
+cell-of-spec = tie.close (tie.spec (λ c κs. search needs) returns (λ c κs. search needs) returns-2)

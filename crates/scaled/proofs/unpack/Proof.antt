@@ -11,26 +11,14 @@ use Rattle.scaled.proofs.unpack.Tie as tie
 float-from-bits-r : tie.Need-float-from-bits-r
 float-from-bits-r c = bits-number (c .args .bits) (c .pre .0)
 
-two-to-requires : tie.Need-two-to-requires
-two-to-requires c κs = search needs
-
 mul-n : tie.Need-mul-n
 mul-n c =
     let a = c .before .args in
     let h : a .z * 2 ^ a .e ≤ 262144 = shifted (a .z) (a .e) (search needs) (c .before .pre .1) in
     rw (c .two-to .ensures) (omega arith)
 
-ten-to-requires : tie.Need-ten-to-requires
-ten-to-requires c κs = search needs
-
 float-to-float-result : tie.Need-float-to-float-result
 float-to-float-result c = let s = c .before .before .before in single-widens (s .args .bits) (s .pre .0)
-
-int-to-float-result : tie.Need-int-to-float-result
-int-to-float-result c = search needs
-
-int-to-float-result-2 : tie.Need-int-to-float-result-2
-int-to-float-result-2 c = search needs
 
 returns : tie.Need-returns
 unfolding scaledValue
@@ -38,13 +26,5 @@ returns c = rw (c .before .before .before .before .two-to .ensures, c .before .b
 
 pub unpack-spec : {M : Type 1} → statement M
 unpack-spec =
-    tie.close
-    (tie.spec
-    float-from-bits-r
-    two-to-requires
-    mul-n
-    ten-to-requires
-    float-to-float-result
-    int-to-float-result
-    int-to-float-result-2
-    returns)
+    tie.close (tie.spec float-from-bits-r (search needs) mul-n (search needs) float-to-float-result
+    (search needs) (search needs) returns)

@@ -192,36 +192,7 @@ returns-3 c = told _ (c .before .loop .inv .2 ∙ ended _ _ _ _ _ _ _ (c .before
 
 pub list-by-spec : {M : Type 1} → statement M
 list-by-spec =
-    tie.close
-    (tie.spec
-    Inv-loop2
-    μ-loop2
-    Inv-loop
-    μ-loop
-    loop-holds
-    shared-slice-read-level
-    known-run-requires
-    cast-kind
-    mul-kind
-    element-copy-out-kind
-    must-list-requires
-    same-length
-    returns
-    sub-put
-    put-requires
-    add-count
-    add-bin
-    loop2-holds
-    loop-less
-    loop-again
-    must-list-requires-2
-    same-length-2
-    returns-2
-    sub-put-2
-    put-requires-2
-    add-count-2
-    add-ray
-    loop2-less
-    loop2-again
-    same-length-3
-    returns-3)
+    tie.close (tie.spec Inv-loop2 μ-loop2 Inv-loop μ-loop loop-holds shared-slice-read-level known-run-requires
+    cast-kind mul-kind element-copy-out-kind must-list-requires same-length returns sub-put put-requires
+    add-count add-bin loop2-holds loop-less loop-again must-list-requires-2 same-length-2 returns-2 sub-put-2
+    put-requires-2 add-count-2 add-ray loop2-less loop2-again same-length-3 returns-3)

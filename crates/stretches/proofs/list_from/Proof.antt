@@ -15,20 +15,11 @@ use borrow.Author.Needs.{needs}
 use Rattle.stretches.proofs.list_from.Statement.{statement}
 use Rattle.stretches.proofs.list_from.Tie as tie
 
-kinds-by-requires : tie.Need-kinds-by-requires
-kinds-by-requires c κs = search needs
-
 mul-list-by : tie.Need-mul-list-by
 mul-list-by c = let s = c .before .before .before .before in omega (arith, point-small (s .args .nb) (s .args .nr) (s .args .ray) (s .args .bin) (s .pre .1 .1) (s .pre .0 .nb-pos) (s .pre .0 .nb-le) (s .pre .0 .nr-le))
 
 add-list-by : tie.Need-add-list-by
 add-list-by c = let s = c .before .before .before .before in omega (arith, point-small (s .args .nb) (s .args .nr) (s .args .ray) (s .args .bin) (s .pre .1 .1) (s .pre .0 .nb-pos) (s .pre .0 .nb-le) (s .pre .0 .nr-le))
-
-list-by-requires : tie.Need-list-by-requires
-list-by-requires c κs = search needs
-
-same-length : tie.Need-same-length
-same-length c = search needs
 
 returns : tie.Need-returns
 returns c = let s = c .before .before .before .before .before .before .before .before in
@@ -38,5 +29,4 @@ returns c = let s = c .before .before .before .before .before .before .before .b
 
 pub list-from-spec : {M : Type 1} → statement M
 list-from-spec =
-    tie.close
-    (tie.spec kinds-by-requires mul-list-by add-list-by list-by-requires same-length returns)
+    tie.close (tie.spec (search needs) mul-list-by add-list-by (λ c κs. search needs) (search needs) returns)

@@ -9,12 +9,6 @@ use borrow.Author.Needs.{needs}
 use Rattle.values.proofs.kind_of.Statement.{statement}
 use Rattle.values.proofs.kind_of.Tie as tie
 
-enum-told : tie.Need-enum-told
-enum-told c = search needs
-
-enum-known-reading : tie.Need-enum-known-reading
-enum-known-reading c = search needs
-
 returns : tie.Need-returns
 unfolding kindOf
 returns c = let s = c .before .before in sym (ap (λ (q : Reading). kindOf q (s .args .t)) (c .enum-told .given .1))
@@ -34,4 +28,4 @@ returns-3 c = let s = c .before .before .before .before in
     sym (ap (λ (q : Reading). kindOf q (s .args .t)) (r .1) ∙ ap (λ (b : Bool). cond b K.Under K.Over) h)
 
 pub kind-of-spec : {M : Type 1} → statement M
-kind-of-spec = tie.close (tie.spec enum-told enum-known-reading returns returns-2 returns-3)
+kind-of-spec = tie.close (tie.spec (search needs) (search needs) returns returns-2 returns-3)

@@ -9,21 +9,9 @@ use borrow.Author.Needs.{needs}
 use Rattle.values.proofs.kinds_by.Statement.{statement}
 use Rattle.values.proofs.kinds_by.Tie as tie
 
-enum-told : tie.Need-enum-told
-enum-told c = search needs
-
-slice-aggregate-kinds-in : tie.Need-slice-aggregate-kinds-in
-slice-aggregate-kinds-in c = search needs
-
 kinds-in-requires : tie.Need-kinds-in-requires
 unfolding tableOf
 kinds-in-requires c κs = sym (ap tableOf (c .before .enum-told .given .1))
-
-enum-told-2 : tie.Need-enum-told-2
-enum-told-2 c = search needs
-
-slice-aggregate-kinds-in-2 : tie.Need-slice-aggregate-kinds-in-2
-slice-aggregate-kinds-in-2 c = search needs
 
 kinds-in-requires-2 : tie.Need-kinds-in-requires-2
 unfolding tableOf
@@ -37,13 +25,5 @@ returns-2 c = let s = c .before .before .before .before in λ l h. c .kinds-in2 
 
 pub kinds-by-spec : {M : Type 1} → statement M
 kinds-by-spec =
-    tie.close
-    (tie.spec
-    enum-told
-    slice-aggregate-kinds-in
-    kinds-in-requires
-    enum-told-2
-    slice-aggregate-kinds-in-2
-    kinds-in-requires-2
-    returns
-    returns-2)
+    tie.close (tie.spec (search needs) (search needs) kinds-in-requires (search needs) (search needs)
+    kinds-in-requires-2 returns returns-2)

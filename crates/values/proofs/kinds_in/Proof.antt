@@ -33,12 +33,6 @@ cast-reading-in c = let s = c .before .before in
 reading-in-requires : tie.Need-reading-in-requires Inv-loop μ-loop
 reading-in-requires c κs = let s = c .before .before in let e = ap length (s .pre) ∙ table-length (s .args .product) in (s .pre, omega arith)
 
-kind-of-requires : tie.Need-kind-of-requires Inv-loop μ-loop
-kind-of-requires c κs = search needs
-
-number-of-requires : tie.Need-number-of-requires Inv-loop μ-loop
-number-of-requires c κs = search needs
-
 mul-numbers : tie.Need-mul-numbers Inv-loop μ-loop
 mul-numbers c = let s : tie.Start Inv-loop μ-loop = search in let e = ap length (s .pre) ∙ table-length (s .args .product) in omega (arith, count-le (s .args .product))
 
@@ -47,9 +41,6 @@ array-write-numbers c = let s : tie.Start Inv-loop μ-loop = search in let e = a
 
 add-level : tie.Need-add-level Inv-loop μ-loop
 add-level c = let s : tie.Start Inv-loop μ-loop = search in let e = ap length (s .pre) ∙ table-length (s .args .product) in omega (arith, count-le (s .args .product))
-
-loop-less : tie.Need-loop-less Inv-loop μ-loop
-loop-less c = omega arith
 
 loop-again : tie.Need-loop-again Inv-loop μ-loop
 loop-again c = let s : tie.Start Inv-loop μ-loop = search in
@@ -68,18 +59,5 @@ returns c = let s = c .before .before in
 
 pub kinds-in-spec : {M : Type 1} → statement M
 kinds-in-spec =
-    tie.close
-    (tie.spec
-    Inv-loop
-    μ-loop
-    loop-holds
-    cast-reading-in
-    reading-in-requires
-    kind-of-requires
-    number-of-requires
-    mul-numbers
-    array-write-numbers
-    add-level
-    loop-less
-    loop-again
-    returns)
+    tie.close (tie.spec Inv-loop μ-loop loop-holds cast-reading-in reading-in-requires (search needs)
+    (search needs) mul-numbers array-write-numbers add-level (λ c. omega arith) loop-again returns)

@@ -5,12 +5,6 @@ use borrow.Author.Needs.{needs}
 use Rattle.values.proofs.level_count.Statement.{statement}
 use Rattle.values.proofs.level_count.Tie as tie
 
-enum-told : tie.Need-enum-told
-enum-told c = search needs
-
-enum-told-2 : tie.Need-enum-told-2
-enum-told-2 c = search needs
-
 returns : tie.Need-returns
 unfolding levelCount
 returns c = sym (ap levelCount (c .enum-told .given .1))
@@ -20,4 +14,4 @@ unfolding levelCount
 returns-2 c = sym (ap levelCount (c .enum-told2 .given .1))
 
 pub level-count-spec : {M : Type 1} → statement M
-level-count-spec = tie.close (tie.spec enum-told enum-told-2 returns returns-2)
+level-count-spec = tie.close (tie.spec (search needs) (search needs) returns returns-2)

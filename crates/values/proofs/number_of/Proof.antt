@@ -7,12 +7,6 @@ use borrow.Author.Needs.{needs}
 use Rattle.values.proofs.number_of.Statement.{statement}
 use Rattle.values.proofs.number_of.Tie as tie
 
-enum-told : tie.Need-enum-told
-enum-told c = search needs
-
-enum-known-reading : tie.Need-enum-known-reading
-enum-known-reading c = search needs
-
 returns : tie.Need-returns
 unfolding numberOf
 returns c = sym (ap numberOf (c .enum-told .given .1))
@@ -22,4 +16,4 @@ unfolding numberOf
 returns-2 c = toZ-ofZ {w = w32} {z = c .before .reading .given .0 .0} (search needs) ∙ sym (ap numberOf (c .before .reading .given .1))
 
 pub number-of-spec : {M : Type 1} → statement M
-number-of-spec = tie.close (tie.spec enum-told enum-known-reading returns returns-2)
+number-of-spec = tie.close (tie.spec (search needs) (search needs) returns returns-2)

@@ -6,12 +6,6 @@ use borrow.Author.Needs.{needs}
 use Rattle.values.proofs.numbered_to.Statement.{statement}
 use Rattle.values.proofs.numbered_to.Tie as tie
 
-enum-told : tie.Need-enum-told
-enum-told c = search needs
-
-enum-told-2 : tie.Need-enum-told-2
-enum-told-2 c = search needs
-
 returns : tie.Need-returns
 unfolding numberedTo
 returns c = let a = c .before .before .args in sym (ap (λ (q : Reading). numberedTo q (a .lo) (a .hi)) (c .enum-told .given .1))
@@ -21,4 +15,4 @@ unfolding numberedTo
 returns-2 c = let a = c .before .before .args in sym (ap (λ (q : Reading). numberedTo q (a .lo) (a .hi)) (c .enum-told2 .given .1))
 
 pub numbered-to-spec : {M : Type 1} → statement M
-numbered-to-spec = tie.close (tie.spec enum-told enum-told-2 returns returns-2)
+numbered-to-spec = tie.close (tie.spec (search needs) (search needs) returns returns-2)

@@ -8,21 +8,6 @@ use borrow.Author.Needs.{needs}
 use Rattle.values.proofs.pair_right.Statement.{statement}
 use Rattle.values.proofs.pair_right.Tie as tie
 
-sign-magnitude-requires : tie.Need-sign-magnitude-requires
-sign-magnitude-requires c κs = search needs
-
-mul-result : tie.Need-mul-result
-mul-result c = search needs
-
-add-result : tie.Need-add-result
-add-result c = search needs
-
-mul-result-2 : tie.Need-mul-result-2
-mul-result-2 c = search needs
-
-add-result-2 : tie.Need-add-result-2
-add-result-2 c = search needs
-
 returns : tie.Need-returns
 returns c = let s = c .before in
     let due = c .sign-magnitude .ensures ∙ ap signMagnitude (toZ-ofZ (s .fits .value)) in
@@ -30,5 +15,5 @@ returns c = let s = c .before in
 
 pub pair-right-spec : {M : Type 1} → statement M
 pair-right-spec =
-    tie.close
-    (tie.spec sign-magnitude-requires mul-result add-result mul-result-2 add-result-2 returns)
+    tie.close (tie.spec (λ c κs. search needs) (search needs) (search needs) (search needs) (search needs)
+    returns)

@@ -11,29 +11,11 @@ use Rattle.values.proofs.Ray.{numbered-within}
 use Rattle.values.proofs.put_reading.Statement.{statement}
 use Rattle.values.proofs.put_reading.Tie as tie
 
-mark-of-requires : tie.Need-mark-of-requires
-mark-of-requires c κs = search needs
-
-stamp-requires : tie.Need-stamp-requires
-stamp-requires c κs = search needs
-
-numbered-to-requires : tie.Need-numbered-to-requires
-numbered-to-requires c κs = search needs
-
-number-of-requires : tie.Need-number-of-requires
-number-of-requires c κs = search needs
-
 stamp-number-requires : tie.Need-stamp-number-requires
 stamp-number-requires c κs = let s = c .before .before .before .before .before .before .before .before .before in
     let w = numbered-within (s .args .reading) (s .args .lo) (s .args .hi) (s .pre .0) in
     let e = c .before .numbered-to .ensures in
     (omega (arith, w .0, e), omega (arith, w .1, e, s .pre .2))
-
-same-length : tie.Need-same-length
-same-length c = search needs
-
-same-length-2 : tie.Need-same-length-2
-same-length-2 c = search needs
 
 returns : tie.Need-returns
 returns c = let a = c .before .before .before .before .before .before .before .before .before .before .before .args in
@@ -45,13 +27,5 @@ returns c = let a = c .before .before .before .before .before .before .before .b
 
 pub put-reading-spec : {M : Type 1} → statement M
 put-reading-spec =
-    tie.close
-    (tie.spec
-    mark-of-requires
-    stamp-requires
-    numbered-to-requires
-    number-of-requires
-    stamp-number-requires
-    same-length
-    same-length-2
-    returns)
+    tie.close (tie.spec (search needs) (search needs) (search needs) (search needs) stamp-number-requires
+    (search needs) (search needs) returns)

@@ -14,12 +14,9 @@ returns : tie.Need-returns
 unfolding readingOf
 returns c = simp (eq-eqb _ _ (c .if1 .taken))
 
-value-in-requires : tie.Need-value-in-requires
-value-in-requires c κs = search needs
-
 returns-2 : tie.Need-returns-2
 unfolding readingOf
 returns-2 c = simp (ne-eqb _ _ (c .before .if1 .left)) (ap Number (toZ-ofZ {w = w32} {z = c .value-in .result} (search needs) ∙ c .value-in .ensures))
 
 pub reading-in-spec : {M : Type 1} → statement M
-reading-in-spec = tie.close (tie.spec returns value-in-requires returns-2)
+reading-in-spec = tie.close (tie.spec returns (λ c κs. search needs) returns-2)

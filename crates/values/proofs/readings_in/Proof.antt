@@ -81,9 +81,6 @@ reading-in-requires c κs = let h = c .before .before in
     let want = c .before .loop-test .taken in
     (start h .pre .0, omega (arith, start h .pre .1 .low, here-low (start h .args .v) (start h .args .octets .now) (h .loop .at) (h .loop .bins) (h .loop .inv .0 .2 want) (more h want)))
 
-sub-run-upto : tie.Need-sub-run-upto Inv-loop μ-loop
-sub-run-upto c = search needs
-
 run-upto-requires : tie.Need-run-upto-requires Inv-loop μ-loop
 run-upto-requires c κs = let h = c .before .before .before in let s = start h in
     let p = s .pre .1 in
@@ -93,12 +90,6 @@ run-upto-requires c κs = let h = c .before .before .before in let s = start h i
 
 add-to : tie.Need-add-to Inv-loop μ-loop
 add-to c = record { fits = omega (arith, past (c .before) .1, start (c .before .before .before .before .before) .pre .1 .near) }
-
-excess-requires : tie.Need-excess-requires Inv-loop μ-loop
-excess-requires c κs = search needs
-
-excess-requires-2 : tie.Need-excess-requires-2 Inv-loop μ-loop
-excess-requires-2 c κs = search needs
 
 put-reading-requires : tie.Need-put-reading-requires Inv-loop μ-loop
 put-reading-requires c κs =
@@ -165,21 +156,6 @@ returns c = let h = c .before in
 
 pub readings-in-spec : {M : Type 1} → statement M
 readings-in-spec =
-    tie.close
-    (tie.spec
-    Inv-loop
-    μ-loop
-    loop-holds
-    shared-slice-read-reading-in
-    reading-in-requires
-    sub-run-upto
-    run-upto-requires
-    add-to
-    excess-requires
-    excess-requires-2
-    put-reading-requires
-    loop-less
-    loop-again
-    same-length
-    same-length-2
-    returns)
+    tie.close (tie.spec Inv-loop μ-loop loop-holds shared-slice-read-reading-in reading-in-requires
+    (search needs) run-upto-requires add-to (search needs) (search needs) put-reading-requires loop-less
+    loop-again same-length same-length-2 returns)

@@ -26,9 +26,6 @@ sub-readings-from c = inside c
 part-readings-from-start : tie.Need-part-readings-from-start
 part-readings-from-start c = inside c
 
-part-readings-from-end : tie.Need-part-readings-from-end
-part-readings-from-end c = search needs
-
 sub-readings-from-2 : tie.Need-sub-readings-from-2
 sub-readings-from-2 c = c .before .seek .ensures .before
 
@@ -39,12 +36,6 @@ readings-from-requires : tie.Need-readings-from-requires
 readings-from-requires c κs = let s = c .before .before .before .before .before .before in
     passed-asks (s .args .product) (s .args .v) (s .args .a) (s .args .b) (s .args .octets .now) _ _ (s .pre .0) (s .pre .1 .0) (c .before .before .before .seek .result) (c .before .before .before .seek .ensures)
 
-same-length : tie.Need-same-length
-same-length c = search needs
-
-same-length-2 : tie.Need-same-length-2
-same-length-2 c = search needs
-
 returns : tie.Need-returns
 returns c = let s = c .before .before .before .before .before .before .before .before .before .before in
     let k = c .before .before .before .before .before .before .before .seek in
@@ -53,15 +44,5 @@ returns c = let s = c .before .before .before .before .before .before .before .b
 
 pub readings-into-spec : {M : Type 1} → statement M
 readings-into-spec =
-    tie.close
-    (tie.spec
-    seek-requires
-    sub-readings-from
-    part-readings-from-start
-    part-readings-from-end
-    sub-readings-from-2
-    sub-readings-from-3
-    readings-from-requires
-    same-length
-    same-length-2
-    returns)
+    tie.close (tie.spec seek-requires sub-readings-from part-readings-from-start (search needs)
+    sub-readings-from-2 sub-readings-from-3 readings-from-requires (search needs) (search needs) returns)

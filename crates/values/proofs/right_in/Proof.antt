@@ -30,37 +30,10 @@ returns-2 c = let a = c .before .before .before .args in sym (unlike-length (a .
 loop-holds : tie.Need-loop-holds Inv-loop μ-loop
 loop-holds c = (omega arith, omega arith, refl)
 
-mul-pair-right : tie.Need-mul-pair-right Inv-loop μ-loop
-mul-pair-right c = omega arith
-
-shared-slice-read-pair-right : tie.Need-shared-slice-read-pair-right Inv-loop μ-loop
-shared-slice-read-pair-right c = omega arith
-
-mul-pair-right-2 : tie.Need-mul-pair-right-2 Inv-loop μ-loop
-mul-pair-right-2 c = omega arith
-
-add-pair-right : tie.Need-add-pair-right Inv-loop μ-loop
-add-pair-right c = omega arith
-
-shared-slice-read-pair-right-2 : tie.Need-shared-slice-read-pair-right-2 Inv-loop μ-loop
-shared-slice-read-pair-right-2 c = omega arith
-
-mul-pair-right-3 : tie.Need-mul-pair-right-3 Inv-loop μ-loop
-mul-pair-right-3 c = omega arith
-
-shared-slice-copy-out-pair-right : tie.Need-shared-slice-copy-out-pair-right Inv-loop μ-loop
-shared-slice-copy-out-pair-right c = omega arith
-
 pair-right-requires : tie.Need-pair-right-requires Inv-loop μ-loop
 pair-right-requires c κs = let s = c .before .before .before .before .before .before .before .before in
     let l = c .before .before .before .before .loop in
     subst (λ (z : ℤ). signMagnitude z < 65536) (sym (toZ-ofZ {w = w16} {z = getD (s .args .table .now) (l .i) (pos 0)} (record { sfits = c .pair-right-arg .given }))) (s .pre (l .i))
-
-add-i : tie.Need-add-i Inv-loop μ-loop
-add-i c = omega arith
-
-loop-less : tie.Need-loop-less Inv-loop μ-loop
-loop-less c = omega arith
 
 loop-again : tie.Need-loop-again Inv-loop μ-loop
 loop-again c = let a = c .before .before .before .before .before .before .before .before .before .args in
@@ -75,22 +48,6 @@ returns-3 c = let a = c .before .before .before .before .before .args in
 
 pub right-in-spec : {M : Type 1} → statement M
 right-in-spec =
-    tie.close
-    (tie.spec
-    Inv-loop
-    μ-loop
-    returns
-    returns-2
-    loop-holds
-    mul-pair-right
-    shared-slice-read-pair-right
-    mul-pair-right-2
-    add-pair-right
-    shared-slice-read-pair-right-2
-    mul-pair-right-3
-    shared-slice-copy-out-pair-right
-    pair-right-requires
-    add-i
-    loop-less
-    loop-again
-    returns-3)
+    tie.close (tie.spec Inv-loop μ-loop returns returns-2 loop-holds (λ c. omega arith) (λ c. omega arith)
+    (λ c. omega arith) (λ c. omega arith) (λ c. omega arith) (λ c. omega arith) (λ c. omega arith)
+    pair-right-requires (λ c. omega arith) (λ c. omega arith) loop-again returns-3)

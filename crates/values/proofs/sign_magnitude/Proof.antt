@@ -34,5 +34,4 @@ returns-2 c = excess (c .before .args .value) (c .before .fits .value) (c .if1 .
 
 pub sign-magnitude-spec : {M : Type 1} → statement M
 sign-magnitude-spec =
-    tie.close
-    (tie.spec cast-w sub-result cast-result add-result cast-result-2 returns cast-result-3 returns-2)
+    tie.close (tie.spec cast-w sub-result cast-result add-result cast-result-2 returns cast-result-3 returns-2)

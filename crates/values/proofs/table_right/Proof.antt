@@ -8,21 +8,9 @@ use borrow.Author.Needs.{needs}
 use Rattle.values.proofs.table_right.Statement.{statement}
 use Rattle.values.proofs.table_right.Tie as tie
 
-enum-told : tie.Need-enum-told
-enum-told c = search needs
-
-slice-aggregate-right-in : tie.Need-slice-aggregate-right-in
-slice-aggregate-right-in c = search needs
-
 right-in-requires : tie.Need-right-in-requires
 unfolding tableOf
 right-in-requires c κs = tables-writable Reflectivity
-
-enum-told-2 : tie.Need-enum-told-2
-enum-told-2 c = search needs
-
-slice-aggregate-right-in-2 : tie.Need-slice-aggregate-right-in-2
-slice-aggregate-right-in-2 c = search needs
 
 right-in-requires-2 : tie.Need-right-in-requires-2
 unfolding tableOf
@@ -38,13 +26,5 @@ returns-2 c = let s = c .before .before .before .before .before in c .right-in2 
 
 pub table-right-spec : {M : Type 1} → statement M
 table-right-spec =
-    tie.close
-    (tie.spec
-    enum-told
-    slice-aggregate-right-in
-    right-in-requires
-    enum-told-2
-    slice-aggregate-right-in-2
-    right-in-requires-2
-    returns
-    returns-2)
+    tie.close (tie.spec (search needs) (search needs) right-in-requires (search needs) (search needs)
+    right-in-requires-2 returns returns-2)

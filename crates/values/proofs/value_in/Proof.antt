@@ -8,12 +8,6 @@ use borrow.Author.Needs.{needs}
 use Rattle.values.proofs.value_in.Statement.{statement}
 use Rattle.values.proofs.value_in.Tie as tie
 
-sub-result : tie.Need-sub-result
-sub-result c = search needs
-
-mul-result : tie.Need-mul-result
-mul-result c = search needs
-
 shared-slice-copy-out-result : tie.Need-shared-slice-copy-out-result
 shared-slice-copy-out-result c = table-within (c .args .product) _ (c .args .level) (c .pre .0) (c .pre .1 .0) (c .pre .1 .1)
 
@@ -25,4 +19,4 @@ returns c = let s = c .before in value-read (s .args .product) _ (s .args .level
 
 pub value-in-spec : {M : Type 1} → statement M
 value-in-spec =
-    tie.close (tie.spec sub-result mul-result shared-slice-copy-out-result cast-result returns)
+    tie.close (tie.spec (search needs) (search needs) shared-slice-copy-out-result cast-result returns)
