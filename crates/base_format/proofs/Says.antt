@@ -19,7 +19,7 @@ use Rattle.runs.proofs.Meaning.{gives-exactly, exactly-gives}
 use Rattle.values.specs.declared.Product.{Product}
 use Rattle.values.specs.Table.{tableRight}
 use Rattle.values.specs.Published.{levelCount}
-use Rattle.values.proofs.Listed.{count-le}
+use Rattle.values.proofs.Published.{count-le}
 use Rattle.values.proofs.Octets.{table-right, right-table}
 use Rattle.sections.specs.Refusal.{refuse}
 use Rattle.sections.specs.declared.Context.{Context}

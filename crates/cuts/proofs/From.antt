@@ -6,12 +6,12 @@ use mathlib.Core.Bool.{Bool, true}
 use native.Mathlib.Omega.{arith}
 use lib.ListN.{length, take, drop}
 use Rattle.runs.specs.Run.{levels}
-use Rattle.runs.specs.Lent.{between}
+use Rattle.lent.specs.Lent.{between}
 use Rattle.index.specs.declared.RayRecord.{RayRecord}
 use Rattle.index.specs.Index.{usable, fromRecord}
 use Rattle.index.proofs.Usable.{Fits, usable-fits, to-end}
 use Rattle.values.specs.Published.{levelCount}
-use Rattle.values.specs.Row.{Bins}
+use Rattle.values.specs.Inner.{Bins}
 use Rattle.values.specs.declared.Product.{Product}
 use Rattle.sections.specs.Parts.{binsIn}
 use Rattle.sections.specs.declared.Cut.{Cut}

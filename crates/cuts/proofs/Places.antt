@@ -8,17 +8,18 @@ use native.Mathlib.Nat.{mul-le-mul, mul-le-mul-right}
 use lib.ListN.{length, getD, take, drop}
 use lib.IntN.{ℤ}
 use Rattle.runs.specs.Run.{opens, levels}
-use Rattle.runs.specs.Lent.{front, between}
+use Rattle.lent.specs.Lent.{front, between}
 use Rattle.runs.proofs.Here.{gives-true, levels-le}
 use Rattle.values.specs.Published.{levelCount}
-use Rattle.values.specs.Row.{Bins}
+use Rattle.values.specs.Inner.{Bins}
 use Rattle.values.specs.declared.Product.{Product}
-use Rattle.values.proofs.Listed.{count-le}
+use Rattle.values.proofs.Published.{count-le}
 use Rattle.sections.specs.Parts.{binsIn, raysIn}
 use Rattle.base_format.specs.Parts.{dataAt, productIn, greatestIn, levelsIn, levelIn}
 use Rattle.base_format.specs.Good.{AnyDataCut, GoodCut}
 use Rattle.sections.specs.declared.Cut.{Cut}
-use Rattle.stretches.specs.Call.{Part, scaleOf, listed, rightPoint}
+use Rattle.stretches.specs.Inner.{CutData}
+use Rattle.stretches.specs.Call.{kindByThreshold, stretchesFrom, rightPoint}
 use Rattle.cuts.specs.Bins.{binsFrom, rayIn, stretchesIn}
 
 pub greatest-small : (s : List ℕ) (c : Cut) → AnyDataCut s c → greatestIn s c ≤ 252
@@ -94,13 +95,13 @@ module _ (s : List ℕ) (c : Cut) (g : GoodCut s c) (v : ℕ) (xs : List ℕ) (e
 
   module _ (nb nr : ℕ) (p : Product) (eb : nb ≡ binsIn s c) (er : nr ≡ raysIn s c) (ep : p ≡ productIn s c) where
     pub list-asks : (ray bin : ℕ) → rightPoint (binsIn s c) (raysIn s c) ray bin ≡ true
-        → Part v nb nr xs × ((v ≤ levelCount p) × (rightPoint nb nr ray bin ≡ true))
+        → CutData v nb nr xs × ((v ≤ levelCount p) × (rightPoint nb nr ray bin ≡ true))
     list-asks ray bin h =
         let small = greatest-small s c (g .any) in
         rw (ev, ex, eb, er, ep)
         (record { v-le = omega arith; nb-pos = g .any .bins-some; nb-le = g .any .bins-few; nr-le = g .any .rays-few; given = g .exact }, (g .any .greatest-few, h))
 
-    pub list-gives : (t z : ℤ) (ray bin : ℕ) → z ≡ t → listed (scaleOf p z) v xs nb nr (ray * nb + bin) ≡ stretchesIn s c t ray bin
+    pub list-gives : (t z : ℤ) (ray bin : ℕ) → z ≡ t → stretchesFrom (kindByThreshold p z) v xs nb nr (ray * nb + bin) ≡ stretchesIn s c t ray bin
     unfolding stretchesIn
     list-gives t z ray bin ez = rw (ev, ex, eb, er, ep, ez)
 

@@ -7,7 +7,7 @@ use Rattle.sections.specs.Parts.{binsIn, raysIn}
 use Rattle.base_format.specs.Parts.{dataAt, productIn, greatestIn, levelsIn}
 use Rattle.sections.specs.declared.Cut.{Cut}
 use Rattle.stretches.specs.Stretch.{Entry}
-use Rattle.stretches.specs.Call.{scaleOf, listed}
+use Rattle.stretches.specs.Call.{kindByThreshold, stretchesFrom}
 
 -- so many levels of a cut, from a place on
 unfoldable pub binsFrom : List ℕ → Cut → ℕ → ℕ → List ℕ
@@ -20,4 +20,4 @@ rayIn s c r = binsFrom s c (r * binsIn s c) (binsIn s c)
 -- the stretches of a cut at a threshold that start at the point (ray, bin) or past it, in order
 unfoldable pub stretchesIn : List ℕ → Cut → ℤ → ℕ → ℕ → List Entry
 stretchesIn s c t ray bin =
-    listed (scaleOf (productIn s c) t) (greatestIn s c) (dataAt s (c .section7)) (binsIn s c) (raysIn s c) (ray * binsIn s c + bin)
+    stretchesFrom (kindByThreshold (productIn s c) t) (greatestIn s c) (dataAt s (c .section7)) (binsIn s c) (raysIn s c) (ray * binsIn s c + bin)

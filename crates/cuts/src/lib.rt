@@ -10,7 +10,7 @@ ghost use mathlib.Core.Path.{_≡_};
 ghost use mathlib.Core.Bool.{true, cond};
 ghost use Prim.Native.Nat.{_+_, _*_, _≤_, _<_};
 ghost use lib.ListN.{length};
-ghost use Rattle.runs.specs.Lent.{front};
+ghost use Rattle.lent.specs.Lent.{front};
 ghost use Rattle.index.specs.Index.{usable, fromRecord};
 ghost use Rattle.values.specs.Published.{levelCount};
 ghost use Rattle.values.specs.Ray.{marksOf, valuesOf};
@@ -48,7 +48,7 @@ fn bins_into(file: &[u8], c: Cut, from: usize, count: usize, out: &mut [u8])
     ensures { λ _. ⌜ now (out .exit) ≡ front (binsFrom (now (file .entry)) c from count) (now (out .entry)) ⌝ }
 {
     let v = greatest_in(file, c);
-    runs::fill(data_in(file, c), v, from, from + count, out)
+    runs::levels_into(data_in(file, c), v, from, from + count, out)
 }
 
 // The levels of a ray, at the front of out.

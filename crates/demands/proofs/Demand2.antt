@@ -12,19 +12,19 @@ use Rattle.fraction.specs.Near.{NearZ}
 use Rattle.fraction.specs.Quotient.{hundredths}
 use Rattle.runs.specs.Run.{levels}
 use Rattle.runs.specs.Runs.{Decodes}
-use Rattle.runs.specs.Lent.{front}
-use Rattle.runs.specs.Read.{ReadPromise}
-use Rattle.runs.specs.declared.RunRead.{RunRead}
-use Rattle.runs.specs.declared.RunRead.the-variants as K
+use Rattle.lent.specs.Lent.{front}
+use Rattle.bare.specs.Read.{ReadPromise}
+use Rattle.bare.specs.declared.RunRead.{RunRead}
+use Rattle.bare.specs.declared.RunRead.the-variants as K
 use Rattle.runs.proofs.Meaning.{levels-decode}
-use Rattle.packing.specs.Write.{WritePromise}
-use Rattle.packing.specs.declared.RunWrite.the-variants.{Wrote}
-use Rattle.packing.proofs.Calls.{read-back}
+use Rattle.bare.specs.Write.{WritePromise}
+use Rattle.bare.specs.declared.RunWrite.the-variants.{Wrote}
+use Rattle.bare.proofs.Write.{read-back}
 use Rattle.values.specs.Published.{published}
 use Rattle.values.specs.Reading.{readingOf, markOf, heldOf}
 use Rattle.values.specs.Ray.{marksOf, valuesOf}
 use Rattle.values.proofs.Readings.{no-number, its-number, published-near}
-use Rattle.values.proofs.Over.{mark-at, value-at}
+use Rattle.values.proofs.Ray.{mark-at, value-at}
 use Rattle.sections.specs.Parts.{binsIn, raysIn}
 use Rattle.base_format.specs.Parts.{dataAt, productIn, greatestIn, levelsIn, levelIn}
 use Rattle.sections.specs.Verdict.{accepted, noCut}
@@ -53,7 +53,7 @@ use Rattle.calls.specs.declared.RayAnswer.the-variants as R
 use Rattle.calls.specs.declared.BinAnswer.{BinAnswer}
 use Rattle.calls.specs.declared.BinAnswer.the-variants as B
 use Rattle.polar.specs.Promises.{OpenPromise, CutPromise, LevelsPromise, ValuesPromise, BinPromise}
-use Rattle.demands.proofs.Lent.{front-at, front-past, over-beyond}
+use Rattle.demands.proofs.Lent.{front-at, front-past, updated-beyond}
 
 -- ── accepted exactly ──
 
@@ -146,8 +146,8 @@ module _ (s : List ℕ) (cs : List Cut) (a : Accepted s cs) (i : ℕ) (lt : i < 
               ∙ value-at P (rayIn s cut ray) values b (omega arith) (omega arith)
               ∙ ap (λ (l : ℕ). heldOf (readingOf P l) (getD values b (pos 0))) (ray-bin s cut good ray h b in-ray)),
           (λ b beyond. (
-            ap (λ (l : List ℕ). getD l b 0) em ∙ over-beyond _ (rayIn s cut ray) marks 0 b (omega arith),
-            ap (λ (l : List ℤ). getD l b (pos 0)) ev ∙ over-beyond _ (rayIn s cut ray) values (pos 0) b (omega arith),
+            ap (λ (l : List ℕ). getD l b 0) em ∙ updated-beyond _ (rayIn s cut ray) marks 0 b (omega arith),
+            ap (λ (l : List ℤ). getD l b (pos 0)) ev ∙ updated-beyond _ (rayIn s cut ray) values (pos 0) b (omega arith),
           )),
         )
 

@@ -12,7 +12,7 @@ use lib.Dec.{ltb}
 use lib.ListN.{length, getD, take, drop, length-drop, take-append-drop}
 use lib.Seq.{take-at}
 use lib.IntN.{ℤ}
-use Rattle.runs.specs.Lent.{front}
+use Rattle.lent.specs.Lent.{front}
 use Rattle.sections.specs.Parts.{binsIn, raysIn}
 use Rattle.base_format.specs.Parts.{dataAt, productIn, greatestIn, levelsIn, levelIn}
 use Rattle.sections.specs.Verdict.{noCut}
@@ -21,7 +21,7 @@ use Rattle.sections.specs.declared.Cut.{Cut}
 use Rattle.base_format.proofs.GoodCuts.{good-accepted}
 use Rattle.stretches.specs.Stretch.{Entry, perEntry, wordsOf}
 use Rattle.stretches.specs.Meaning.{IsStretch, IsList, Wanted}
-use Rattle.stretches.specs.Call.{scaleOf, listed, fitting, answerOf, outOf, rightT, rightPoint}
+use Rattle.stretches.specs.Call.{kindByThreshold, stretchesFrom, fitting, answerOf, outOf, rightT, rightPoint}
 use Rattle.stretches.specs.declared.Listing.{Listing}
 use Rattle.stretches.proofs.Meaning.{one-list, is-list, list-right}
 use Rattle.stretches.proofs.Portions.{from-start, from-end, from-next, next-end, next-right}
@@ -47,27 +47,27 @@ module _ (s : List ℕ) (cs : List Cut) (a : Accepted s cs) (i : ℕ) (lt : i < 
 
   -- ── the list is the list of the longest stretches, and only one list is ──
 
-  pub whole-list : IsList (IsStretch (scaleOf (productIn s (getD cs i noCut)) t) (levelIn s (getD cs i noCut)) (binsIn s (getD cs i noCut)) (raysIn s (getD cs i noCut))) (listOf 0 0)
+  pub whole-list : IsList (IsStretch (kindByThreshold (productIn s (getD cs i noCut)) t) (levelIn s (getD cs i noCut)) (binsIn s (getD cs i noCut)) (raysIn s (getD cs i noCut))) (listOf 0 0)
   unfolding stretchesIn levelIn levelsIn
   whole-list =
       let c = getD cs i noCut in
-      let sc = scaleOf (productIn s c) t in
+      let sc = kindByThreshold (productIn s c) t in
       subst (IsList (IsStretch sc (levelIn s c) (binsIn s c) (raysIn s c)))
       (sym (from-start sc (greatestIn s c) (dataAt s (c .section7)) (binsIn s c) (raysIn s c)))
       (is-list sc (levelsIn s c) (binsIn s c) some-bins (raysIn s c))
 
   pub only-list : (l : List Entry)
-      → IsList (IsStretch (scaleOf (productIn s (getD cs i noCut)) t) (levelIn s (getD cs i noCut)) (binsIn s (getD cs i noCut)) (raysIn s (getD cs i noCut))) l
+      → IsList (IsStretch (kindByThreshold (productIn s (getD cs i noCut)) t) (levelIn s (getD cs i noCut)) (binsIn s (getD cs i noCut)) (raysIn s (getD cs i noCut))) l
       → l ≡ listOf 0 0
   only-list l k = one-list _ l (listOf 0 0) k whole-list
 
   -- from any point that may be asked for: the part of it that starts at or past the point
   pub part-list : (ray bin : ℕ) → rightPoint (binsIn s (getD cs i noCut)) (raysIn s (getD cs i noCut)) ray bin ≡ true
-      → IsList (Wanted (scaleOf (productIn s (getD cs i noCut)) t) (levelIn s (getD cs i noCut)) (binsIn s (getD cs i noCut)) (raysIn s (getD cs i noCut)) ray bin) (listOf ray bin)
+      → IsList (Wanted (kindByThreshold (productIn s (getD cs i noCut)) t) (levelIn s (getD cs i noCut)) (binsIn s (getD cs i noCut)) (raysIn s (getD cs i noCut)) ray bin) (listOf ray bin)
   unfolding stretchesIn levelIn levelsIn
   part-list ray bin h =
       let c = getD cs i noCut in
-      list-right (scaleOf (productIn s c) t) (greatestIn s c) (dataAt s (c .section7)) (binsIn s c) (raysIn s c) ray bin some-bins h
+      list-right (kindByThreshold (productIn s c) t) (greatestIn s c) (dataAt s (c .section7)) (binsIn s c) (raysIn s c) ray bin some-bins h
 
   -- ── the call ──
 
@@ -93,7 +93,7 @@ module _ (s : List ℕ) (cs : List Cut) (a : Accepted s cs) (i : ℕ) (lt : i < 
   unfolding stretchesIn
   next-asked ray bin n =
       let c = getD cs i noCut in
-      next-right (scaleOf (productIn s c) t) (greatestIn s c) (dataAt s (c .section7)) (binsIn s c) (raysIn s c) (record { ray = ray; bin = bin }) n some-bins
+      next-right (kindByThreshold (productIn s c) t) (greatestIn s c) (dataAt s (c .section7)) (binsIn s c) (raysIn s c) (record { ray = ray; bin = bin }) n some-bins
 
   -- ── portions ──
 
@@ -139,7 +139,7 @@ module _ (s : List ℕ) (cs : List Cut) (a : Accepted s cs) (i : ℕ) (lt : i < 
   unfolding stretchesIn
   left-over ray bin n =
       let c = getD cs i noCut in
-      from-next (scaleOf (productIn s c) t) (greatestIn s c) (dataAt s (c .section7)) (binsIn s c) (raysIn s c) (record { ray = ray; bin = bin }) n
+      from-next (kindByThreshold (productIn s c) t) (greatestIn s c) (dataAt s (c .section7)) (binsIn s c) (raysIn s c) (record { ray = ray; bin = bin }) n
 
   -- what was handed over, and then what is left, is what was to be listed
   pub fetched-rest : (n ray bin ray′ bin′ : ℕ) (es : List Entry) → Fetched s i t n ray bin es ray′ bin′ → es ++ listOf ray′ bin′ ≡ listOf ray bin
@@ -158,7 +158,7 @@ module _ (s : List ℕ) (cs : List Cut) (a : Accepted s cs) (i : ℕ) (lt : i < 
   unfolding stretchesIn
   fetched-all n es f =
       let c = getD cs i noCut in
-      let z = from-end (scaleOf (productIn s c) t) (greatestIn s c) (dataAt s (c .section7)) (binsIn s c) (raysIn s c) in
+      let z = from-end (kindByThreshold (productIn s c) t) (greatestIn s c) (dataAt s (c .section7)) (binsIn s c) (raysIn s c) in
       sym (append-nil es) ∙ ap (λ (x : List Entry). es ++ x) (sym z) ∙ fetched-rest n 0 0 (raysIn s c) 0 es f
 
   -- the fetching ends: each call takes one entry at least, and with nothing left the point is (Nr, 0)
@@ -177,7 +177,7 @@ module _ (s : List ℕ) (cs : List Cut) (a : Accepted s cs) (i : ℕ) (lt : i < 
       let c = getD cs i noCut in
       let k = listing-is ray bin words words′ l p in
       let y = ap (λ (x : Listing). listOf (x .ray) (x .bin)) (sym (k .answer)) ∙ z in
-      let e = next-end (scaleOf (productIn s c) t) (greatestIn s c) (dataAt s (c .section7)) (binsIn s c) (raysIn s c) (record { ray = ray; bin = bin }) (length words) y in
+      let e = next-end (kindByThreshold (productIn s c) t) (greatestIn s c) (dataAt s (c .section7)) (binsIn s c) (raysIn s c) (record { ray = ray; bin = bin }) (length words) y in
       (ap (λ (x : Listing). x .ray) (k .answer) ∙ ap (λ q. q .ray) e, ap (λ (x : Listing). x .bin) (k .answer) ∙ ap (λ q. q .bin) e)
   last-point n ray bin ray′ bin′ all (call {l = l} ds p h (call {n = m} {fs = fs} es p' h' f)) z =
       last-point m (l .ray) (l .bin) ray′ bin′ (es ++ fs) (call es p' h' f) z

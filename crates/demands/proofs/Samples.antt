@@ -14,13 +14,14 @@ use Rattle.polar.specs.Promises.{OpenPromise, LevelsPromise}
 use Rattle.polar.specs.declared.Opened.{Opened}
 use Rattle.polar.specs.declared.Opened.the-variants as O
 use Rattle.runs.specs.Run.{digitSum, levels, gives}
-use Rattle.runs.specs.Read.{readAnswer, readOut, ReadPromise}
-use Rattle.runs.specs.declared.ReadRefusal.the-variants.{VOver253, TooManyBins, WrongBins}
-use Rattle.runs.specs.declared.RunRead.{RunRead}
-use Rattle.runs.specs.declared.RunRead.the-variants as K
-use Rattle.packing.specs.Write.{greatest, written, writeAnswer, WritePromise}
-use Rattle.packing.specs.declared.RunWrite.{RunWrite}
-use Rattle.packing.specs.declared.RunWrite.the-variants.{Wrote}
+use Rattle.bare.specs.Read.{readAnswer, readOut, ReadPromise}
+use Rattle.bare.specs.declared.ReadRefusal.the-variants.{VOver253, TooManyBins, WrongBins}
+use Rattle.bare.specs.declared.RunRead.{RunRead}
+use Rattle.bare.specs.declared.RunRead.the-variants as K
+use Rattle.packing.specs.Write.{greatest, written}
+use Rattle.bare.specs.Write.{writeAnswer, WritePromise}
+use Rattle.bare.specs.declared.RunWrite.{RunWrite}
+use Rattle.bare.specs.declared.RunWrite.the-variants.{Wrote}
 
 -- an empty file is refused by 1, at place 0
 pub empty-file : (r : Opened) → OpenPromise [] r → r ≡ O.Refused (refuse FileSize 0)

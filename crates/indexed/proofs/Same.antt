@@ -9,8 +9,8 @@ use borrow.Author.Tests.{lt-ltb, le-ltb, ltb-false}
 use lib.Dec.{ltb}
 use lib.IntN.{ℤ}
 use lib.ListN.{length, getD, drop, List·getD-append}
-use Rattle.runs.specs.Lent.{front}
-use Rattle.runs.proofs.Bins.{either}
+use Rattle.lent.specs.Lent.{front}
+use Rattle.octets.proofs.Orders.{by-order}
 use Rattle.index.specs.declared.RayRecord.{RayRecord}
 use Rattle.index.proofs.Records.{built-usable, built-from, length-records}
 use Rattle.values.specs.Ray.{marksOf, valuesOf}
@@ -79,7 +79,7 @@ module _ (s : List ℕ) (cs : List Cut) (whole : verdict s ≡ accepted cs) (i :
   on-cut : (room : ℕ) → fromOn s ray rec room cut ≡ rayOn s ray room cut
   unfolding fromOn rayOn
   on-cut room =
-      either (raysIn s cut) ray
+      by-order (raysIn s cut) ray
       (λ out. rw (le-ltb ray (raysIn s cut) out))
       (λ inside. ap (λ (x : RayRecord). fromOn s ray x room cut) (is inside) ∙ same-on s cut good ray inside e room)
 
@@ -90,7 +90,7 @@ module _ (s : List ℕ) (cs : List Cut) (whole : verdict s ≡ accepted cs) (i :
   bins-same : (room : ℕ) → rayAnswer s i ray room ≡ Written → rayFrom s cut rec ≡ rayIn s cut ray
   unfolding rayOn
   bins-same room w =
-      either (raysIn s cut) ray
+      by-order (raysIn s cut) ray
       (λ out.
       let no : Refused (refuse Argument 0) ≡ Written = sym (plainly room ∙ rw (le-ltb ray (raysIn s cut) out)) ∙ w in
       absurd (let z : _≡_ {A = ℕ} 0 1 = cc no in omega arith))

@@ -8,7 +8,7 @@ use lib.ListN.{length, drop, getD}
 use lib.Dec.{leb}
 use borrow.Author.Tests.{lt-leb, le-leb, leb-true}
 use Rattle.runs.specs.Run.{levels, runLen}
-use Rattle.runs.proofs.Bins.{either}
+use Rattle.octets.proofs.Orders.{by-order}
 use Rattle.index.specs.declared.RayRecord.{RayRecord}
 use Rattle.index.specs.Index.{usable}
 use Rattle.index.proofs.Usable.{usable-outside, usable-above, usable-reached, usable-left}
@@ -17,12 +17,12 @@ use Rattle.records.specs.Reasons.{Unfit, outside, above, reached, ends}
 module _ (v nb : ℕ) (d : List ℕ) (rec : RayRecord) where
   pub unfit-not : Unfit v nb d rec → usable v nb d rec ≡ false
   unfit-not u =
-      either (length d) (rec .offset)
+      by-order (length d) (rec .offset)
       (λ o. usable-outside v nb d rec o)
       (λ i.
-      either (getD d (rec .offset) 0) v
+      by-order (getD d (rec .offset) 0) v
       (λ l.
-      either (runLen v d (rec .offset)) (rec .before)
+      by-order (runLen v d (rec .offset)) (rec .before)
       (λ h. usable-reached v nb d rec i l h)
       (λ h. usable-left v nb d rec i l h ∙ lt-leb _ _ (short i l h u)))
       (λ h. usable-above v nb d rec i h))
@@ -36,15 +36,15 @@ module _ (v nb : ℕ) (d : List ℕ) (rec : RayRecord) where
 
   pub not-unfit : usable v nb d rec ≡ false → Unfit v nb d rec
   not-unfit n =
-      either (length d) (rec .offset)
+      by-order (length d) (rec .offset)
       (λ o. outside o)
       (λ i.
-      either (getD d (rec .offset) 0) v
+      by-order (getD d (rec .offset) 0) v
       (λ l.
-      either (runLen v d (rec .offset)) (rec .before)
+      by-order (runLen v d (rec .offset)) (rec .before)
       (λ h. reached h)
       (λ h.
-      either (rec .before + nb) (length (levels v (drop (rec .offset) d)))
+      by-order (rec .before + nb) (length (levels v (drop (rec .offset) d)))
       (λ e. absurd (let w : _≡_ {A = ℕ} 0 1 = cc (sym n ∙ usable-left v nb d rec i l h ∙ le-leb _ _ e) in omega arith))
       (λ e. ends e)))
       (λ h. above h))

@@ -9,10 +9,10 @@ use Rattle.sections.specs.Refusal.{numberOf}
 use Rattle.sections.specs.declared.Refusal.{Refusal}
 use Rattle.stretches.specs.Stretch.{Entry}
 use Rattle.stretches.specs.declared.Listing.{Listing}
-use Rattle.lines.specs.Put.{Put}
+use Rattle.lent.specs.Put.{Put}
 use Rattle.lines.specs.Text.{entryLines, refusedLine, endLine}
 use Rattle.lines.specs.Words.{entriesIn}
-use Rattle.lines.proofs.Placing.{put-none, named}
+use Rattle.lent.proofs.Putting.{put-none, named}
 use Rattle.lines.proofs.Words.{entries-part}
 use Rattle.lines.proofs.Lines.{lines-some, head-some, refused-some, end-some}
 use Rattle.listing.specs.Listing.{headOf}

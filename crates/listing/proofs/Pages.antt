@@ -5,8 +5,8 @@ use mathlib.Core.Bool.{true, false}
 use mathlib.Core.List.{List, [], _++_, append-assoc}
 use native.Mathlib.Omega.{arith}
 use lib.ListN.{length, drop, length-append}
-use Rattle.runs.specs.Lent.{placed}
-use Rattle.runs.proofs.Lent.{placed-front, length-front}
+use Rattle.lent.specs.Lent.{placed}
+use Rattle.lent.proofs.Lent.{placed-front, length-front}
 use Rattle.lines.specs.Text.{entryLines, endLine}
 use Rattle.lines.proofs.Lines.{refused-some, end-some}
 use Rattle.listing.specs.Listing.{headOf, textOf, cutLines, entryCount}

@@ -11,13 +11,13 @@ use lib.ListN.{length, take, drop, length-take, drop-of-length-le}
 use lib.Seq.{take-all}
 use lib.IntN.{ℤ}
 use Rattle.runs.specs.Run.{levels}
-use Rattle.runs.proofs.Bins.{either}
+use Rattle.octets.proofs.Orders.{by-order}
 use Rattle.sections.specs.Parts.{binsIn, raysIn}
 use Rattle.base_format.specs.Parts.{productIn, greatestIn, dataAt}
 use Rattle.base_format.specs.Good.{GoodCut}
 use Rattle.sections.specs.declared.Cut.{Cut}
-use Rattle.stretches.specs.Stretch.{Entry, perEntry, kindAt, fresh, starts, entryAt, more, listFrom, stretchesOf, past}
-use Rattle.stretches.specs.Call.{scaleOf, listed, fitting, answer, answerOf, rightPoint}
+use Rattle.stretches.specs.Stretch.{Entry, perEntry, kindAt, beginsAfter, starts, entryAt, unbroken, listFrom, stretchesOf, fromPlace}
+use Rattle.stretches.specs.Call.{kindByThreshold, stretchesFrom, fitting, answer, answerOf, rightPoint}
 use Rattle.stretches.specs.declared.Listing.{Listing}
 use Rattle.stretches.proofs.Portions.{from-start, from-end, from-next, next-right}
 use Rattle.cuts.specs.Bins.{stretchesIn}
@@ -29,16 +29,16 @@ unfolding listFrom
 list-few S E p zero = omega arith
 list-few S E p (suc m) = go (S p) (list-few S E (suc p) m)
   where
-    go : (b : Bool) → length (listFrom S E (suc p) m) ≤ m → length (cond b (E p (suc (more S (suc p) m)) ∷ listFrom S E (suc p) m) (listFrom S E (suc p) m)) ≤ suc m
+    go : (b : Bool) → length (listFrom S E (suc p) m) ≤ m → length (cond b (E p (suc (unbroken S (suc p) m)) ∷ listFrom S E (suc p) m) (listFrom S E (suc p) m)) ≤ suc m
     go true h = omega arith
     go false h = omega arith
 
-past-few : (nb q : ℕ) (l : List Entry) → length (past nb q l) ≤ length l
-unfolding past
+past-few : (nb q : ℕ) (l : List Entry) → length (fromPlace nb q l) ≤ length l
+unfolding fromPlace
 past-few nb q [] = omega arith
 past-few nb q (e ∷ l) = go (leb q (e .ray * nb + e .first)) (past-few nb q l)
   where
-    go : (b : Bool) → length (past nb q l) ≤ length l → length (cond b (e ∷ past nb q l) (past nb q l)) ≤ suc (length l)
+    go : (b : Bool) → length (fromPlace nb q l) ≤ length l → length (cond b (e ∷ fromPlace nb q l) (fromPlace nb q l)) ≤ suc (length l)
     go true h = omega arith
     go false h = omega arith
 
@@ -48,22 +48,22 @@ list-some S E zero h b = absurd (omega arith)
 list-some S E (suc m) h b = rw b (omega arith)
 
 first-starts : (K : ℕ → ℕ) (nb : ℕ) → starts K nb 0 ≡ true
-unfolding fresh
+unfolding beginsAfter
 first-starts K nb = rw (zero-mod nb)
 
 module _ (s : List ℕ) (c : Cut) (t : ℤ) (g : GoodCut s c) where
   pub entries-few : (ray bin : ℕ) → length (stretchesIn s c t ray bin) ≤ 2097152
-  unfolding stretchesIn listed
+  unfolding stretchesIn stretchesFrom
   entries-few ray bin =
       let ls = levels (greatestIn s c) (dataAt s (c .section7)) in
-      let sc = scaleOf (productIn s c) t in
+      let sc = kindByThreshold (productIn s c) t in
       omega (arith, past-few (binsIn s c) (ray * binsIn s c + bin) (stretchesOf sc ls (binsIn s c) (raysIn s c * binsIn s c)), list-few (starts (kindAt sc ls) (binsIn s c)) (entryAt sc ls (binsIn s c)) 0 (raysIn s c * binsIn s c), few-bins s c g)
 
   pub entries-some : 0 < length (stretchesIn s c t 0 0)
   unfolding stretchesIn
   entries-some =
       let ls = levels (greatestIn s c) (dataAt s (c .section7)) in
-      let sc = scaleOf (productIn s c) t in
+      let sc = kindByThreshold (productIn s c) t in
       let bins : 1 * 1 ≤ raysIn s c * binsIn s c = mul-le-mul (g .any .rays-some) (g .any .bins-some) in
       rw (from-start sc (greatestIn s c) (dataAt s (c .section7)) (binsIn s c) (raysIn s c))
       (list-some (starts (kindAt sc ls) (binsIn s c)) (entryAt sc ls (binsIn s c)) (raysIn s c * binsIn s c) (omega arith) (first-starts (kindAt sc ls) (binsIn s c)))
@@ -76,7 +76,7 @@ module _ (s : List ℕ) (c : Cut) (t : ℤ) (g : GoodCut s c) where
 
 -- what is the same from k on is the same at n as at the least of n and k
 at-most : (f : ℕ → List Entry) (k n : ℕ) → ((i j : ℕ) → k ≤ i → k ≤ j → f i ≡ f j) → f n ≡ f (min n k)
-at-most f k n same = either n k (λ h. let e : n ≡ min n k = omega arith in ap f e) (λ h. same n (min n k) (omega arith) (omega arith))
+at-most f k n same = by-order n k (λ h. let e : n ≡ min n k = omega arith in ap f e) (λ h. same n (min n k) (omega arith) (omega arith))
 
 module _ (nr room : ℕ) (L : List Entry) where
   pub count-is : answerOf nr room L .count ≡ min (room / perEntry) (length L)
@@ -116,7 +116,7 @@ last-point nb nr ray bin right h = go (eqb ray nr) refl (eqb bin 0) refl (rw (le
 
 nothing-past : (s : List ℕ) (c : Cut) (t : ℤ) → stretchesIn s c t (raysIn s c) 0 ≡ []
 unfolding stretchesIn
-nothing-past s c t = from-end (scaleOf (productIn s c) t) (greatestIn s c) (dataAt s (c .section7)) (binsIn s c) (raysIn s c)
+nothing-past s c t = from-end (kindByThreshold (productIn s c) t) (greatestIn s c) (dataAt s (c .section7)) (binsIn s c) (raysIn s c)
 
 module _ (s : List ℕ) (c : Cut) (t : ℤ) (g : GoodCut s c) (ray bin room : ℕ) where
   abbrev L : List Entry
@@ -129,12 +129,12 @@ module _ (s : List ℕ) (c : Cut) (t : ℤ) (g : GoodCut s c) (ray bin room : �
   pub rest-is : stretchesIn s c t (A .ray) (A .bin) ≡ drop (A .count) L
   unfolding stretchesIn
   rest-is =
-      from-next (scaleOf (productIn s c) t) (greatestIn s c) (dataAt s (c .section7)) (binsIn s c) (raysIn s c) (record { ray = ray; bin = bin }) room
-      ∙ drop-count (raysIn s c) room (listed (scaleOf (productIn s c) t) (greatestIn s c) (dataAt s (c .section7)) (binsIn s c) (raysIn s c) (ray * binsIn s c + bin))
+      from-next (kindByThreshold (productIn s c) t) (greatestIn s c) (dataAt s (c .section7)) (binsIn s c) (raysIn s c) (record { ray = ray; bin = bin }) room
+      ∙ drop-count (raysIn s c) room (stretchesFrom (kindByThreshold (productIn s c) t) (greatestIn s c) (dataAt s (c .section7)) (binsIn s c) (raysIn s c) (ray * binsIn s c + bin))
 
   pub rest-right : rightPoint (binsIn s c) (raysIn s c) (A .ray) (A .bin) ≡ true
   unfolding stretchesIn
-  rest-right = next-right (scaleOf (productIn s c) t) (greatestIn s c) (dataAt s (c .section7)) (binsIn s c) (raysIn s c) (record { ray = ray; bin = bin }) room (g .any .bins-some)
+  rest-right = next-right (kindByThreshold (productIn s c) t) (greatestIn s c) (dataAt s (c .section7)) (binsIn s c) (raysIn s c) (record { ray = ray; bin = bin }) room (g .any .bins-some)
 
   -- at the last point nothing is left, and before it something is
   pub rest-none : raysIn s c ≤ A .ray → drop (A .count) L ≡ []

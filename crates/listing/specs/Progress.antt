@@ -12,8 +12,9 @@ use Rattle.sections.specs.declared.Cut.{Cut}
 use Rattle.stretches.specs.Stretch.{Entry, perEntry}
 use Rattle.stretches.specs.Call.{answerOf, rightPoint}
 use Rattle.stretches.specs.declared.Listing.{Listing}
-use Rattle.runs.specs.Lent.{front}
-use Rattle.lines.specs.Put.{Put, entryRoom}
+use Rattle.lent.specs.Lent.{front}
+use Rattle.lent.specs.Put.{Put}
+use Rattle.lines.specs.Rooms.{entryRoom}
 use Rattle.lines.specs.Text.{entryLines, refusedLine, endLine}
 use Rattle.lines.specs.Words.{entriesIn}
 use Rattle.listing.specs.Listing.{headOf, houseList, cutLines, entryCount}

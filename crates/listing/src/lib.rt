@@ -15,7 +15,8 @@ ghost use Prim.Native.Nat.{ℕ, _+_, _≤_, _<_, min};
 ghost use lib.ListN.{length};
 ghost use Rattle.sections.specs.Refusal.{numberOf};
 ghost use Rattle.stretches.specs.Stretch.{perEntry};
-ghost use Rattle.lines.specs.Put.{Put, lineRoom};
+ghost use Rattle.lent.specs.Put.{Put};
+ghost use Rattle.lines.specs.Rooms.{lineRoom};
 ghost use Rattle.listing.specs.Listing.{productNumber, headOf, textOf};
 ghost use Rattle.listing.specs.Progress.{stepRoom, cutBegun, textFrom, turnText, finished, rank, On, Listed, Held, Sound, Reaches, Goes, Paged};
 

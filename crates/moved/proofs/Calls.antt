@@ -8,7 +8,7 @@ use lib.ListN.{length, getD, take, drop}
 use lib.IntN.{ℤ}
 use Rattle.rules.specs.Rules.{field}
 use Rattle.rules.specs.Fields.{binsAt, raysAt}
-use Rattle.runs.specs.Lent.{front}
+use Rattle.lent.specs.Lent.{front}
 use Rattle.values.specs.Reading.{readingOf}
 use Rattle.values.specs.Ray.{marksOf, valuesOf}
 use Rattle.sections.specs.Verdict.{noCut}

@@ -16,7 +16,7 @@ use Rattle.sections.proofs.Alike.{field-alike, bins-alike, rays-alike, grid-ali
 use Rattle.base_format.specs.Parts.{productOf, productIn, greatestIn, dataAt, levelsIn}
 use Rattle.base_format.specs.Accepted.{baseFormat, Accepted}
 use Rattle.base_format.proofs.Alike.{site-alike, greatest-alike, data-alike}
-use Rattle.stretches.specs.Call.{scaleOf, listed}
+use Rattle.stretches.specs.Call.{kindByThreshold, stretchesFrom}
 use Rattle.cuts.specs.Bins.{stretchesIn}
 use Rattle.files.specs.File.{Parts, partsAt, Whole, firstFour}
 use Rattle.files.proofs.Section.{is-there}
@@ -63,7 +63,7 @@ told s c first w =
       greatest = v;
       octets = octets;
       levels-are = (λ i. levels (v i) (octets i));
-      stretches-are = λ t ray bin. (λ i. listed (scaleOf (product i) t) (v i) (octets i) (nb i) (nr i) (ray * nb i + bin));
+      stretches-are = λ t ray bin. (λ i. stretchesFrom (kindByThreshold (product i) t) (v i) (octets i) (nb i) (nr i) (ray * nb i + bin));
     }
 
 pub told-at : (s : List ℕ) (cs : List Cut) → Accepted s cs → (i : ℕ) → i < length cs → Told s (getD cs i noCut) (partsAt s (getD cs i noCut))

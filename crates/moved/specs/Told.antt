@@ -9,7 +9,7 @@ use Rattle.runs.specs.Run.{levels}
 use Rattle.values.specs.declared.Product.{Product}
 use Rattle.base_format.specs.Parts.{productOf}
 use Rattle.stretches.specs.Stretch.{Entry}
-use Rattle.stretches.specs.Call.{scaleOf, listed}
+use Rattle.stretches.specs.Call.{kindByThreshold, stretchesFrom}
 use Rattle.files.specs.File.{Parts}
 
 -- the product, the levels and the stretches of a cut, by its octets
@@ -21,4 +21,4 @@ levelsBy p = levels (greatestAt (p .five) 0) (drop 5 (p .seven))
 
 abbrev pub stretchesBy : Parts → ℤ → ℕ → ℕ → List Entry
 stretchesBy p t ray bin =
-    listed (scaleOf (productBy p) t) (greatestAt (p .five) 0) (drop 5 (p .seven)) (binsAt (p .three) 0) (raysAt (p .three) 0) (ray * binsAt (p .three) 0 + bin)
+    stretchesFrom (kindByThreshold (productBy p) t) (greatestAt (p .five) 0) (drop 5 (p .seven)) (binsAt (p .three) 0) (raysAt (p .three) 0) (ray * binsAt (p .three) 0 + bin)

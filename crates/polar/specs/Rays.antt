@@ -6,7 +6,7 @@ use mathlib.Core.Bool.{cond, _&&_}
 use lib.Dec.{ltb}
 use lib.IntN.{ℤ}
 use Rattle.fraction.specs.Quotient.{hundredths}
-use Rattle.runs.specs.Lent.{front}
+use Rattle.lent.specs.Lent.{front}
 use Rattle.values.specs.Reading.{readingOf}
 use Rattle.values.specs.Ray.{marksOf, valuesOf}
 use Rattle.values.specs.declared.Reading.{Reading}

@@ -16,7 +16,7 @@ use walks::Walked;
 ghost use mathlib.Core.Path.{_≡_};
 ghost use Prim.Native.Nat.{min};
 ghost use lib.ListN.{length};
-ghost use Rattle.runs.specs.Lent.{front};
+ghost use Rattle.lent.specs.Lent.{front};
 ghost use Rattle.values.specs.Ray.{marksOf, valuesOf};
 ghost use Rattle.base_format.specs.Parts.{productIn};
 ghost use Rattle.base_format.specs.Good.{GoodCut};
@@ -282,7 +282,7 @@ fn stretches_on(
             place: 0,
         });
     }
-    if words.len() < stretches::WORDS {
+    if words.len() < stretches::PER_ENTRY {
         return StretchAnswer::Refused(Refusal {
             why: Why::Room,
             place: 0,

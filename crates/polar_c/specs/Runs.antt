@@ -5,14 +5,15 @@ use mathlib.Core.Path.{_≡_}
 use mathlib.Core.List.{List}
 use lib.ListN.{length, set}
 use Rattle.runs.specs.Run.{levels}
-use Rattle.runs.specs.Read.{readAnswer, readOut, readNumber, readPlace, checkAnswer, checkNumber}
-use Rattle.runs.specs.declared.RunRead.{RunRead}
-use Rattle.runs.specs.declared.RunRead.the-variants as R
-use Rattle.runs.specs.declared.RunCheck.{RunCheck}
-use Rattle.runs.specs.declared.RunCheck.the-variants as K
-use Rattle.packing.specs.Write.{packed, writeAnswer, writeOut, writeNumber, writePlace}
-use Rattle.packing.specs.declared.RunWrite.{RunWrite}
-use Rattle.packing.specs.declared.RunWrite.the-variants as W
+use Rattle.bare.specs.Read.{readAnswer, readOut, readNumber, readPlace, checkAnswer, checkNumber}
+use Rattle.bare.specs.declared.RunRead.{RunRead}
+use Rattle.bare.specs.declared.RunRead.the-variants as R
+use Rattle.bare.specs.declared.RunCheck.{RunCheck}
+use Rattle.bare.specs.declared.RunCheck.the-variants as K
+use Rattle.packing.specs.Write.{packed}
+use Rattle.bare.specs.Write.{writeAnswer, writeOut, writeNumber, writePlace}
+use Rattle.bare.specs.declared.RunWrite.{RunWrite}
+use Rattle.bare.specs.declared.RunWrite.the-variants as W
 
 abbrev pub runCheckNumber : RunCheck → ℕ
 runCheckNumber K.Gives = 0

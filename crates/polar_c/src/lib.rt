@@ -11,10 +11,10 @@ ghost use Rattle.polar_c.specs.Files.{OpenCall, CutCall, RayLevelsCall, 
 mod answers;
 mod refusals;
 
+use bare::RunCheck;
 use dualpol::DualCut;
 use index::RayRecord;
 use polar::CutAnswer;
-use runs::RunCheck;
 
 // ---- runs, without a file
 
@@ -23,7 +23,7 @@ use runs::RunCheck;
 pub extern "C" fn polar_run_check(octets: &[u8], v: u8, n: usize) -> u32
     ensures { λ r. ⌜ RunCheckCall v n (now (octets .entry)) r ⌝ }
 {
-    match runs::run_check(octets, v, n) {
+    match bare::run_check(octets, v, n) {
         RunCheck::Gives => 0,
         RunCheck::Refused(why) => refusals::check_number(why),
     }
@@ -40,7 +40,7 @@ pub extern "C" fn polar_run_read(
 ) -> u32
     ensures { λ r. ⌜ RunReadCall v n (now (octets .entry)) (now (out .entry)) (now (place .entry)) r (now (out .exit)) (now (place .exit)) ⌝ }
 {
-    answers::tell_read(runs::run_read(octets, v, n, out), place)
+    answers::tell_read(bare::run_read(octets, v, n, out), place)
 }
 
 // Run write: the octets for the levels at the front of `out`; `answer` is place, V, number of octets.
@@ -48,7 +48,7 @@ pub extern "C" fn polar_run_read(
 pub extern "C" fn polar_run_write(levels: &[u8], out: &mut [u8], answer: &mut [u64; 3]) -> u32
     ensures { λ r. ⌜ RunWriteCall (now (levels .entry)) (now (out .entry)) (now (answer .entry)) r (now (out .exit)) (now (answer .exit)) ⌝ }
 {
-    answers::tell_write(packing::run_write(levels, out), answer)
+    answers::tell_write(bare::run_write(levels, out), answer)
 }
 
 // ---- files

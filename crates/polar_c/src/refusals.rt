@@ -1,11 +1,11 @@
 // Document 01's number and place of each refusal that a call passes on.
 ghost use mathlib.Core.Path.{_≡_};
-ghost use Rattle.runs.specs.Read.{readNumber, readPlace, checkNumber};
-ghost use Rattle.packing.specs.Write.{writeNumber, writePlace};
+ghost use Rattle.bare.specs.Read.{readNumber, readPlace, checkNumber};
+ghost use Rattle.bare.specs.Write.{writeNumber, writePlace};
 ghost use Rattle.sections.specs.Refusal.{numberOf};
-use packing::WriteRefusal;
-use runs::CheckRefusal;
-use runs::ReadRefusal;
+use bare::CheckRefusal;
+use bare::ReadRefusal;
+use bare::WriteRefusal;
 use sections::Refusal;
 
 // ---- of the bare run calls
@@ -14,9 +14,9 @@ pub fn check_number(why: CheckRefusal) -> u32
     ensures { λ r. ⌜ r ≡ checkNumber why ⌝ }
 {
     match why {
-        CheckRefusal::VOver253 => 12,
-        CheckRefusal::TooManyBins => 10,
-        CheckRefusal::WrongBins => 8,
+        CheckRefusal::V => 12,
+        CheckRefusal::Argument => 10,
+        CheckRefusal::Data => 8,
     }
 }
 
@@ -24,10 +24,10 @@ pub fn read_number(why: ReadRefusal) -> u32
     ensures { λ r. ⌜ r ≡ readNumber why ⌝ }
 {
     match why {
-        ReadRefusal::VOver253 => 12,
-        ReadRefusal::TooManyBins => 10,
-        ReadRefusal::RoomTooShort => 11,
-        ReadRefusal::WrongBins => 8,
+        ReadRefusal::V => 12,
+        ReadRefusal::Argument => 10,
+        ReadRefusal::Room => 11,
+        ReadRefusal::Data => 8,
     }
 }
 
@@ -35,10 +35,10 @@ pub fn read_place(why: ReadRefusal) -> u64
     ensures { λ r. ⌜ r ≡ readPlace why ⌝ }
 {
     match why {
-        ReadRefusal::VOver253 => 0,
-        ReadRefusal::TooManyBins => 0,
-        ReadRefusal::RoomTooShort => 0,
-        ReadRefusal::WrongBins => 0,
+        ReadRefusal::V => 0,
+        ReadRefusal::Argument => 0,
+        ReadRefusal::Room => 0,
+        ReadRefusal::Data => 0,
     }
 }
 
@@ -46,8 +46,8 @@ pub fn write_number(why: WriteRefusal) -> u32
     ensures { λ r. ⌜ r ≡ writeNumber why ⌝ }
 {
     match why {
-        WriteRefusal::LevelsOutOfRange => 10,
-        WriteRefusal::RoomTooShort => 11,
+        WriteRefusal::Argument => 10,
+        WriteRefusal::Room => 11,
     }
 }
 
@@ -55,8 +55,8 @@ pub fn write_place(why: WriteRefusal) -> u64
     ensures { λ r. ⌜ r ≡ writePlace why ⌝ }
 {
     match why {
-        WriteRefusal::LevelsOutOfRange => 0,
-        WriteRefusal::RoomTooShort => 0,
+        WriteRefusal::Argument => 0,
+        WriteRefusal::Room => 0,
     }
 }
 

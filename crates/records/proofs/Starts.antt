@@ -6,7 +6,7 @@ use native.Mathlib.Omega.{arith}
 use lib.ListN.{length, take, drop, length-take}
 use Rattle.rules.specs.Fields.{lengthAt}
 use Rattle.runs.specs.Run.{levels}
-use Rattle.runs.specs.Lent.{front}
+use Rattle.lent.specs.Lent.{front}
 use Rattle.runs.proofs.Bins.{levels-nil}
 use Rattle.index.specs.declared.RayRecord.{RayRecord}
 use Rattle.index.specs.declared.Pace.{Pace}

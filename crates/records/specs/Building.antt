@@ -3,7 +3,7 @@ use Prim.Native.Nat.{ℕ, _+_, _≤_}
 use mathlib.Core.Path.{_≡_}
 use mathlib.Core.List.{List}
 use Rattle.rules.specs.Fields.{lengthAt}
-use Rattle.runs.specs.Lent.{front}
+use Rattle.lent.specs.Lent.{front}
 use Rattle.index.specs.declared.RayRecord.{RayRecord}
 use Rattle.index.specs.declared.Pace.{Pace}
 use Rattle.index.specs.Index.{records}

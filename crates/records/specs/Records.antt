@@ -6,7 +6,7 @@ use mathlib.Core.Bool.{cond}
 use lib.Dec.{ltb}
 use lib.ListN.{length}
 use lib.IntN.{ℤ}
-use Rattle.runs.specs.Lent.{front}
+use Rattle.lent.specs.Lent.{front}
 use Rattle.index.specs.declared.RayRecord.{RayRecord}
 use Rattle.values.specs.Ray.{marksOf, valuesOf}
 use Rattle.sections.specs.Parts.{binsIn, raysIn}

@@ -12,7 +12,7 @@ use sections::Why;
 ghost use mathlib.Core.Path.{_≡_};
 ghost use Prim.Native.Nat.{min};
 ghost use lib.ListN.{length};
-ghost use Rattle.runs.specs.Lent.{front};
+ghost use Rattle.lent.specs.Lent.{front};
 ghost use Rattle.index.specs.Pace.{Going};
 ghost use Rattle.values.specs.Ray.{marksOf, valuesOf};
 ghost use Rattle.sections.specs.Parts.{raysIn};

@@ -1,5 +1,5 @@
 -- The checks as a chain of `check` are the first that fails.
-use Rattle.values.proofs.Listed.{count-le}
+use Rattle.values.proofs.Published.{count-le}
 use Rattle.rules.specs.Fields.{parameterAt}
 use native.Mathlib.Omega.{arith}
 use borrow.Author.Needs.{needs}

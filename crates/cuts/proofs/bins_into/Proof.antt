@@ -1,4 +1,4 @@
--- What `fill` asks and gives, said of a good cut (Places.antt).
+-- What `levels_into` asks and gives, said of a good cut (Places.antt).
 use Rattle.cuts.proofs.Places.{fill-asks, fill-gives, few-bins}
 use native.Mathlib.Omega.{arith}
 use Prim.Native.Nat.{_-_}
@@ -13,19 +13,19 @@ greatest-in-requires c κs = search needs
 data-in-requires : tie.Need-data-in-requires
 data-in-requires c κs = search needs
 
-add-fill : tie.Need-add-fill
-add-fill c = omega (arith, few-bins _ _ (c .before .before .before .before .pre .0))
+add-levels-into : tie.Need-add-levels-into
+add-levels-into c = omega (arith, few-bins _ _ (c .before .before .before .before .pre .0))
 
-fill-requires : tie.Need-fill-requires
-fill-requires c κs = fill-asks _ _ (c .before .before .before .before .before .pre .0) _ _ (c .before .before .greatest-in .ensures) (c .before .data-in .ensures) _ _ _ (c .before .before .before .before .before .pre .1 .0) (c .before .before .before .before .before .pre .1 .1)
+levels-into-requires : tie.Need-levels-into-requires
+levels-into-requires c κs = fill-asks _ _ (c .before .before .before .before .before .pre .0) _ _ (c .before .before .greatest-in .ensures) (c .before .data-in .ensures) _ _ _ (c .before .before .before .before .before .pre .1 .0) (c .before .before .before .before .before .pre .1 .1)
 
 same-length : tie.Need-same-length
 same-length c = search needs
 
 returns : tie.Need-returns
-returns c = c .before .before .fill .ensures ∙ fill-gives _ _ (c .before .before .before .before .before .before .before .before .pre .0) _ _ (c .before .before .before .before .before .greatest-in .ensures) (c .before .before .before .before .data-in .ensures) _ _ _
+returns c = c .before .before .levels-into .ensures ∙ fill-gives _ _ (c .before .before .before .before .before .before .before .before .pre .0) _ _ (c .before .before .before .before .before .greatest-in .ensures) (c .before .before .before .before .data-in .ensures) _ _ _
 
 pub bins-into-spec : {M : Type 1} → statement M
 bins-into-spec =
     tie.close
-    (tie.spec greatest-in-requires data-in-requires add-fill fill-requires same-length returns)
+    (tie.spec greatest-in-requires data-in-requires add-levels-into levels-into-requires same-length returns)

@@ -5,7 +5,7 @@ use mathlib.Core.Bool.{cond}
 use Prim.Native.Nat.{ℕ}
 use native.Mathlib.Omega.{arith}
 use denote.Ref.{now}
-use Rattle.runs.specs.Lent.{front}
+use Rattle.lent.specs.Lent.{front}
 use Rattle.cuts.proofs.Places.{greatest-small}
 use Rattle.cuts.proofs.From.{same-usable, same-ray}
 use borrow.Author.Needs.{needs}

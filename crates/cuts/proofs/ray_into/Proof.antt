@@ -2,7 +2,7 @@
 use Rattle.cuts.proofs.Places.{few-bins, ray-inside}
 use Rattle.cuts.specs.Bins.{binsFrom, rayIn}
 use Rattle.sections.specs.Parts.{binsIn, raysIn}
-use Rattle.runs.specs.Lent.{front}
+use Rattle.lent.specs.Lent.{front}
 use denote.Ref.{now}
 use native.Mathlib.Omega.{arith}
 use Prim.Native.Nat.{ℕ, _*_}

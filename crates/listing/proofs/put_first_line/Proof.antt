@@ -1,7 +1,7 @@
 -- `put_first_line` meets its contract: the numbers are those of the cut.
 use mathlib.Core.Path.{ap, _∙_}
 use Rattle.lines.specs.Text.{headLine}
-use Rattle.lines.proofs.Placing.{named}
+use Rattle.lent.proofs.Putting.{named}
 use Rattle.listing.specs.Listing.{productNumber, headOf}
 use borrow.Author.Needs.{needs}
 use Rattle.listing.proofs.put_first_line.Statement.{statement}

@@ -4,7 +4,7 @@ use Rattle.calls.specs.Cuts.{ifWritten}
 use Rattle.polar.specs.Rays.{rayAnswer, levelsAfter}
 use Rattle.cuts.specs.Bins.{rayIn}
 use Rattle.sections.specs.declared.Cut.{Cut}
-use Rattle.runs.specs.Lent.{front}
+use Rattle.lent.specs.Lent.{front}
 use denote.Ref.{now}
 use mathlib.Core.Path.{refl, sym, _∙_, ap}
 use borrow.Author.Needs.{needs}

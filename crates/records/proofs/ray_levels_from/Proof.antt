@@ -4,7 +4,7 @@ use Rattle.calls.specs.Cuts.{ifWritten}
 use Rattle.records.specs.Records.{fromAnswer, levelsFrom}
 use Rattle.cuts.specs.Records.{rayFrom}
 use Rattle.sections.specs.declared.Cut.{Cut}
-use Rattle.runs.specs.Lent.{front}
+use Rattle.lent.specs.Lent.{front}
 use denote.Ref.{now}
 use mathlib.Core.Path.{refl, sym, _∙_, ap}
 use borrow.Author.Needs.{needs}

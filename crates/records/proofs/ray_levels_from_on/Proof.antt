@@ -4,7 +4,7 @@ use mathlib.Core.Path.{_≡_, refl, ap, _∙_}
 use mathlib.Core.Bool.{Bool, cond}
 use lib.ListN.{length}
 use denote.Ref.{now}
-use Rattle.runs.specs.Lent.{front}
+use Rattle.lent.specs.Lent.{front}
 use Rattle.cuts.specs.Records.{rayFrom}
 use Rattle.records.proofs.Answering.{from-none, from-short, from-given, from-not}
 use Rattle.sections.specs.Refusal.{refuse}

@@ -3,7 +3,7 @@ use mathlib.Core.Path.{_≡_, refl, sym, ap, subst, _∙_}
 use Prim.Native.Nat.{ℕ, _≤_, _<_}
 use mathlib.Core.List.{List}
 use native.Mathlib.Omega.{arith}
-use Rattle.runs.specs.Lent.{front}
+use Rattle.lent.specs.Lent.{front}
 use Rattle.index.specs.Pace.{Going}
 use Rattle.index.specs.declared.RayRecord.{RayRecord}
 use Rattle.sections.specs.Parts.{raysIn}
