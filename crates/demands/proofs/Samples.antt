@@ -15,7 +15,7 @@ use Rattle.polar.specs.declared.Opened.{Opened}
 use Rattle.polar.specs.declared.Opened.the-variants as O
 use Rattle.runs.specs.Run.{digitSum, levels, gives}
 use Rattle.bare.specs.Read.{readAnswer, readOut, ReadPromise}
-use Rattle.bare.specs.declared.ReadRefusal.the-variants.{VOver253, TooManyBins, WrongBins}
+use Rattle.bare.specs.declared.ReadRefusal.the-variants as F
 use Rattle.bare.specs.declared.RunRead.{RunRead}
 use Rattle.bare.specs.declared.RunRead.the-variants as K
 use Rattle.packing.specs.Write.{greatest, written}
@@ -34,7 +34,7 @@ unfolding rayAnswer levelsAfter onCut verdictBy sized
 empty-file-ray r out p = p .after ∙ ap (λ (x : RayAnswer). levelsAfter x [] 0 0 (8 ∷ 9 ∷ [])) (p .answer)
 
 -- V = 10: `11 3` opens above V, and is refused by 8
-pub opens-above-v : (r : RunRead) (out : List ℕ) → ReadPromise 10 1 (11 ∷ 3 ∷ []) (0 ∷ []) r out → r ≡ K.Refused WrongBins
+pub opens-above-v : (r : RunRead) (out : List ℕ) → ReadPromise 10 1 (11 ∷ 3 ∷ []) (0 ∷ []) r out → r ≡ K.Refused F.Data
 unfolding readAnswer gives
 opens-above-v r out p = p .answered
 
@@ -44,12 +44,12 @@ unfolding readAnswer gives levels digitSum
 one-three r out p = p .held ∙ ap (λ (x : RunRead). readOut x (levels 10 (3 ∷ 11 ∷ [])) (9 ∷ 9 ∷ [])) (p .answered)
 
 -- V over 253 is refused by 12, before 10 and 11
-pub v-254 : (r : RunRead) (out : List ℕ) → ReadPromise 254 2097153 (3 ∷ []) (0 ∷ []) r out → r ≡ K.Refused VOver253
+pub v-254 : (r : RunRead) (out : List ℕ) → ReadPromise 254 2097153 (3 ∷ []) (0 ∷ []) r out → r ≡ K.Refused F.V
 unfolding readAnswer
 v-254 r out p = p .answered
 
 -- n over 2,097,152 is refused by 10, before 11
-pub too-many-wanted : (r : RunRead) (out : List ℕ) → ReadPromise 253 2097153 (3 ∷ []) (0 ∷ []) r out → r ≡ K.Refused TooManyBins
+pub too-many-wanted : (r : RunRead) (out : List ℕ) → ReadPromise 253 2097153 (3 ∷ []) (0 ∷ []) r out → r ≡ K.Refused F.Argument
 unfolding readAnswer
 too-many-wanted r out p = p .answered
 
