@@ -5,3 +5,4 @@ pub mod First
 pub mod Exact
 pub mod AnyData
 pub mod GoodCuts
+pub mod Products

@@ -16,6 +16,11 @@ use Rattle.sections.specs.declared.Cut.{Cut}
 unfoldable pub productOf : ℕ → Product
 productOf n = cond (eqb n 1) Reflectivity Velocity
 
+-- and back, where a product is told as a number
+abbrev pub productNumber : Product → ℕ
+productNumber Reflectivity = 1
+productNumber Velocity = 2
+
 -- section 5: level n's value at 16+2n to 17+2n, so the values are its octets from 18 on
 unfoldable pub tableAt : List ℕ → ℕ → List ℕ
 tableAt s at = take (lengthAt s at - 17) (drop (at + 17) s)

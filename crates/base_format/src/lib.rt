@@ -19,7 +19,7 @@ ghost use Rattle.sections.specs.Verdict.{firstFault};
 ghost use Rattle.rules.specs.Rules.{meets, meetsAll, within, magnitude, either};
 ghost use Rattle.base_format.specs.Rules.{rules3, rules4, rules5};
 ghost use Rattle.base_format.specs.Fields.{siteAt, greatestAt, countAt};
-ghost use Rattle.base_format.specs.Parts.{productOf, tableAt, dataAt, productIn};
+ghost use Rattle.base_format.specs.Parts.{productOf, productNumber, tableAt, dataAt, productIn};
 ghost use Rattle.base_format.specs.Checks.{checks3, checks4, checks5, pastLength5, checks7, baseChecks, anyDataChecks7};
 
 fn wide16(x: u16) -> u32
@@ -97,6 +97,16 @@ fn product_of(parameter: u8) -> Product
         Product::Reflectivity
     } else {
         Product::Velocity
+    }
+}
+
+// The parameter's number of a product.
+pub fn product_number(product: Product) -> u8
+    ensures { λ r. ⌜ r ≡ productNumber product ⌝ }
+{
+    match product {
+        Product::Reflectivity => 1,
+        Product::Velocity => 2,
     }
 }
 

@@ -6,10 +6,8 @@ use mathlib.Core.List.{List, [], _∷_, _++_}
 use lib.Dec.{ltb}
 use lib.ListN.{length}
 use lib.IntN.{pos}
-use Rattle.values.specs.declared.Product.{Product}
-use Rattle.values.specs.declared.Product.the-variants.{Reflectivity, Velocity}
 use Rattle.sections.specs.Parts.{binsIn, raysIn}
-use Rattle.base_format.specs.Parts.{productIn}
+use Rattle.base_format.specs.Parts.{productIn, productNumber}
 use Rattle.sections.specs.Refusal.{numberOf}
 use Rattle.sections.specs.Verdict.{Verdict, accepted, refused}
 use Rattle.base_format.specs.Verdict.{verdict}
@@ -19,12 +17,7 @@ use Rattle.stretches.specs.Call.{houseThreshold}
 use Rattle.cuts.specs.Bins.{stretchesIn}
 use Rattle.lines.specs.Text.{entryLines, headLine, refusedLine, endLine}
 
--- the product as the file numbers it
-abbrev pub productNumber : Product → ℕ
-productNumber Reflectivity = 1
-productNumber Velocity = 2
-
--- the first line of cut i
+-- the first line of cut i: the product as the file numbers it
 unfoldable pub headOf : List ℕ → ℕ → Cut → List ℕ
 headOf s i c = headLine i (productNumber (productIn s c)) (binsIn s c) (raysIn s c) houseThreshold
 

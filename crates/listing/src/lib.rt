@@ -6,7 +6,6 @@ use sections::Cut;
 use sections::Refusal;
 use sections::Why;
 use stretches::Listing;
-use values::Product;
 use walks::Walked;
 ghost use mathlib.Core.Path.{_≡_};
 ghost use mathlib.Core.Bool.{false};
@@ -17,7 +16,7 @@ ghost use Rattle.sections.specs.Refusal.{numberOf};
 ghost use Rattle.stretches.specs.Stretch.{perEntry};
 ghost use Rattle.lent.specs.Put.{Put};
 ghost use Rattle.lines.specs.Rooms.{lineRoom};
-ghost use Rattle.listing.specs.Listing.{productNumber, headOf, textOf};
+ghost use Rattle.listing.specs.Listing.{headOf, textOf};
 ghost use Rattle.listing.specs.Progress.{stepRoom, cutBegun, textFrom, turnText, finished, rank, On, Listed, Held, Sound, Reaches, Goes, Paged};
 
 // How many lines of entries a step writes at most, and how much room it asks.
@@ -59,15 +58,6 @@ struct Stepped {
 pub struct Written {
     pub len: usize,
     pub next: Progress,
-}
-
-fn product_number(p: Product) -> usize
-    ensures { λ r. ⌜ r ≡ productNumber p ⌝ }
-{
-    match p {
-        Product::Reflectivity => 1,
-        Product::Velocity => 2,
-    }
 }
 
 fn number_of(refusal: Refusal) -> usize
@@ -133,7 +123,7 @@ fn put_first_line(file: &[u8], t: Turn, text: &mut [u8], at: usize) -> usize
     ensures { λ r. ⌜ Put (now (text .entry)) at (headOf (now (file .entry)) (t .number) (t .cut)) (now (text .exit)) r ⌝ }
 {
     let cut = t.cut;
-    let product = product_number(base_format::product_in(file, cut));
+    let product = base_format::product_number(base_format::product_in(file, cut)) as usize;
     let bins = sections::bins_in(file, cut);
     let rays = sections::rays_in(file, cut);
     lines::put_head(

@@ -2,7 +2,8 @@
 use mathlib.Core.Path.{ap, _∙_}
 use Rattle.lines.specs.Text.{headLine}
 use Rattle.lent.proofs.Putting.{named}
-use Rattle.listing.specs.Listing.{productNumber, headOf}
+use Rattle.base_format.specs.Parts.{productNumber}
+use Rattle.listing.specs.Listing.{headOf}
 use borrow.Author.Needs.{needs}
 use Rattle.listing.proofs.put_first_line.Statement.{statement}
 use Rattle.listing.proofs.put_first_line.Tie as tie
@@ -13,6 +14,9 @@ product-in-requires c κs = search needs
 
 product-number-requires : tie.Need-product-number-requires
 product-number-requires c κs = search needs
+
+cast-product : tie.Need-cast-product
+cast-product c = search needs
 
 bins-in-requires : tie.Need-bins-in-requires
 bins-in-requires c κs = search needs
@@ -31,11 +35,14 @@ same-length c = search needs
 
 returns : tie.Need-returns
 unfolding headOf
-returns c = let s = c .before .before .before .before .before .before .before .before .before .before .before in
-    let n = c .before .before .before .before .before .before .product-number .ensures ∙ ap productNumber (c .before .before .before .before .before .before .before .product-in .ensures) in
-    let b = c .before .before .before .before .before .bins-in .ensures in
-    let r = c .before .before .before .before .rays-in .ensures in
-    named (λ i. headLine (s .args .t .number) (n i) (b i) (r i) houseThreshold) (c .before .before .put-head .ensures)
+returns c =
+    let s : tie.Start = search in
+    let product : tie.After-product-in = search in
+    let number : tie.After-product-number = search in
+    let bins : tie.After-bins-in = search in
+    let rays : tie.After-rays-in = search in
+    let n = number .product-number .ensures ∙ ap productNumber (product .product-in .ensures) in
+    named (λ i. headLine (s .args .t .number) (n i) (bins .bins-in .ensures i) (rays .rays-in .ensures i) houseThreshold) (c .before .before .put-head .ensures)
 
 pub put-first-line-spec : {M : Type 1} → statement M
 put-first-line-spec =
@@ -43,6 +50,7 @@ put-first-line-spec =
     (tie.spec
     product-in-requires
     product-number-requires
+    cast-product
     bins-in-requires
     rays-in-requires
     cast-put-head
