@@ -1,9 +1,9 @@
 -- DEMAND 1. Any octets may be lent. Every call gives its answer or one numbered refusal with its place, by document 01's order of checks, and on a
--- refusal no octet or word of a lent buffer has changed. Both ways: a call refuses so exactly where its reason holds (`polar` specs/Reasons.antt). (That every call ends and
+-- refusal no octet or word of a lent buffer has changed. Both ways: a call refuses so exactly where its reason holds (`polar` specs/Reasons.antt), and answers exactly where none does. (That every call ends and
 -- asks nothing: each function is proved, and none has a `requires`.) The idea: the answer is a function of the verdict, so it is taken apart by the verdict and then by each test.
 use Prim.Native.Nat.{ℕ, _≤_, _<_, min}
 use mathlib.Core.Path.{_≡_, refl, sym, _∙_, subst}
-use mathlib.Core.Logic.{_⊎_, inl, inr, ⊎-elim}
+use mathlib.Core.Logic.{_⊎_, inl, inr, ⊎-elim, _↔_}
 use mathlib.Core.List.{List}
 use mathlib.Core.Bool.{Bool, true, false, cond, false≢true, _&&_}
 use native.Mathlib.Omega.{arith}
@@ -26,18 +26,21 @@ use Rattle.values.specs.declared.Reading.{Reading}
 use Rattle.values.specs.declared.Reading.the-variants as N
 use Rattle.stretches.specs.Stretch.{perEntry}
 use Rattle.stretches.specs.Call.{rightT, rightPoint, answerOf}
+use Rattle.stretches.specs.declared.Listing.{Listing}
 use Rattle.cuts.specs.Bins.{stretchesIn}
 use Rattle.calls.specs.Reasons.{Asking, by-argument, by-room, by-record}
 use Rattle.calls.specs.declared.RayAnswer.{RayAnswer}
 use Rattle.calls.specs.declared.RayAnswer.the-variants as R
 use Rattle.calls.specs.declared.BinAnswer.{BinAnswer}
 use Rattle.calls.specs.declared.BinAnswer.the-variants as B
-use Rattle.calls.proofs.ByVerdict.{file-refused, by-file-verdict, reason, by-reason}
+use Rattle.calls.proofs.ByVerdict.{file-refused, by-file-verdict, reason, by-reason, Answers, answers-exactly, ray-answers, BinAnswered, bin-answers}
 use Rattle.polar.specs.Opening.{summaryOf, openAnswer, infoOf, cutAnswer}
 use Rattle.polar.specs.Rays.{rayOn, rayAnswer, levelsAfter, marksAfter, valuesAfter, binOf, binOn, binAnswer}
 use Rattle.polar.specs.Stretching.{stretchesOn, stretchAnswer, wordsAfter}
 use Rattle.polar.specs.Promises.{OpenPromise, CutPromise, LevelsPromise, ValuesPromise, BinPromise, StretchesPromise}
 use Rattle.polar.specs.Reasons.{CutReasons, RayFault, RayReasons, BinFault, BinReasons, ListFault, ListReasons}
+use Rattle.polar.specs.declared.Summary.{Summary}
+use Rattle.polar.specs.declared.CutInfo.{CutInfo}
 use Rattle.polar.specs.declared.Opened.{Opened}
 use Rattle.polar.specs.declared.Opened.the-variants as O
 use Rattle.polar.specs.declared.CutAnswer.{CutAnswer}
@@ -191,3 +194,59 @@ pub refused-stretches : (s : List ℕ) (i : ℕ) (t : ℤ) (ray bin : ℕ) (word
 unfolding stretchAnswer
 refused-stretches s i t ray bin words words′ q a h p =
     p .answer ∙ by-reason baseChecks baseFormat exact s S.Refused (stretchesOn s t ray bin (length words)) i (ListFault s t ray bin (length words)) q (list-fault s t ray bin (length words)) h
+
+-- ── and it answers exactly where no reason to refuse holds ──
+
+open-answers : Answers O.Refused (λ a. (m : Summary) × (a ≡ O.File m))
+open-answers = record { one-of = one-of; not-both = λ q h. let z : _≡_ {A = ℕ} 0 1 = cc (h .1) in omega arith }
+  where
+    one-of : (a : Opened) → ((m : Summary) × (a ≡ O.File m)) ⊎ ((q : Refusal) × (a ≡ O.Refused q))
+    one-of (O.File m) = inl (m, refl)
+    one-of (O.Refused q) = inr (q, refl)
+
+cut-answers : Answers C.Refused (λ a. (m : CutInfo) × (a ≡ C.Cut m))
+cut-answers = record { one-of = one-of; not-both = λ q h. let z : _≡_ {A = ℕ} 0 1 = cc (h .1) in omega arith }
+  where
+    one-of : (a : CutAnswer) → ((m : CutInfo) × (a ≡ C.Cut m)) ⊎ ((q : Refusal) × (a ≡ C.Refused q))
+    one-of (C.Cut m) = inl (m, refl)
+    one-of (C.Refused q) = inr (q, refl)
+
+list-answers : Answers S.Refused (λ a. (m : Listing) × (a ≡ S.Listed m))
+list-answers = record { one-of = one-of; not-both = λ q h. let z : _≡_ {A = ℕ} 0 1 = cc (h .1) in omega arith }
+  where
+    one-of : (a : StretchAnswer) → ((m : Listing) × (a ≡ S.Listed m)) ⊎ ((q : Refusal) × (a ≡ S.Refused q))
+    one-of (S.Listed m) = inl (m, refl)
+    one-of (S.Refused q) = inr (q, refl)
+
+module _ (s : List ℕ) where
+  pub open-answered : (a : Opened) → OpenPromise s a → ((m : Summary) × (a ≡ O.File m)) ↔ ((q : Refusal) → RefusedBy s q → ⊥)
+  open-answered a p = answers-exactly open-answers a (RefusedBy s) (λ q e. open-refused s q (subst (OpenPromise s) e p)) (λ q w. refused-open s q a w p)
+
+  pub cut-answered : (i : ℕ) (a : CutAnswer) → CutPromise s i a → ((m : CutInfo) × (a ≡ C.Cut m)) ↔ ((q : Refusal) → CutReasons s i q → ⊥)
+  cut-answered i a p = answers-exactly cut-answers a (CutReasons s i) (λ q e. cut-refused s i q (subst (CutPromise s i) e p)) (λ q w. refused-cut s i q a w p)
+
+  pub levels-answered : (i ray : ℕ) (out out′ : List ℕ) (a : RayAnswer) → LevelsPromise s i ray out a out′ → (a ≡ R.Written) ↔ ((q : Refusal) → RayReasons s i ray (length out) q → ⊥)
+  levels-answered i ray out out′ a p =
+      answers-exactly ray-answers a (RayReasons s i ray (length out))
+      (λ q e. levels-refused s i ray q out out′ (subst (λ (x : RayAnswer). LevelsPromise s i ray out x out′) e p) .0)
+      (λ q w. refused-levels s i ray q out out′ a w p)
+
+  pub values-answered : (i ray : ℕ) (marks marks′ : List ℕ) (values values′ : List ℤ) (a : RayAnswer) → ValuesPromise s i ray marks values a marks′ values′
+      → (a ≡ R.Written) ↔ ((q : Refusal) → RayReasons s i ray (min (length marks) (length values)) q → ⊥)
+  values-answered i ray marks marks′ values values′ a p =
+      answers-exactly ray-answers a (RayReasons s i ray (min (length marks) (length values)))
+      (λ q e. values-refused s i ray q marks marks′ values values′ (subst (λ (x : RayAnswer). ValuesPromise s i ray marks values x marks′ values′) e p) .0)
+      (λ q w. refused-values s i ray q marks marks′ values values′ a w p)
+
+  pub bin-answered : (i ray bin : ℕ) (a : BinAnswer) → BinPromise s i ray bin a → BinAnswered a ↔ ((q : Refusal) → BinReasons s i ray bin q → ⊥)
+  bin-answered i ray bin a p =
+      answers-exactly bin-answers a (BinReasons s i ray bin)
+      (λ q e. bin-refused s i ray bin q (subst (BinPromise s i ray bin) e p))
+      (λ q w. refused-bin s i ray bin q a w p)
+
+  pub stretches-answered : (i : ℕ) (t : ℤ) (ray bin : ℕ) (words words′ : List ℕ) (a : StretchAnswer) → StretchesPromise s i t ray bin words a words′
+      → ((l : Listing) × (a ≡ S.Listed l)) ↔ ((q : Refusal) → ListReasons s i t ray bin (length words) q → ⊥)
+  stretches-answered i t ray bin words words′ a p =
+      answers-exactly list-answers a (ListReasons s i t ray bin (length words))
+      (λ q e. stretches-refused s i t ray bin words words′ q (subst (λ (x : StretchAnswer). StretchesPromise s i t ray bin words x words′) e p) .0)
+      (λ q w. refused-stretches s i t ray bin words words′ q a w p)

@@ -3,7 +3,7 @@
 -- The idea: the answer is a function of the verdict, which is exact, and of the cell.
 use Prim.Native.Nat.{ℕ, _-_, _^_, _≤_, _<_}
 use mathlib.Core.Path.{_≡_, refl, sym, _∙_, ap, subst}
-use mathlib.Core.Logic.{_⊎_, inl, inr}
+use mathlib.Core.Logic.{_⊎_, inl, inr, _↔_}
 use mathlib.Core.List.{List}
 use mathlib.Core.Bool.{Bool, true, false, cond, _&&_}
 use native.Mathlib.Omega.{arith}
@@ -17,6 +17,7 @@ use Rattle.scaled.specs.declared.Cell.the-variants as L
 use Rattle.sections.specs.Parts.{binsIn, raysIn, gridAt}
 use Rattle.sections.specs.Verdict.{noCut}
 use Rattle.sections.specs.declared.Cut.{Cut}
+use Rattle.sections.specs.declared.Grid.{Grid}
 use Rattle.sections.specs.Refusal.{refuse}
 use Rattle.sections.specs.declared.Refusal.{Refusal}
 use Rattle.sections.specs.declared.Why.the-variants.{Argument}
@@ -29,7 +30,7 @@ use Rattle.calls.specs.Cuts.{cutAt}
 use Rattle.calls.specs.Reasons.{Reason, Asking, by-argument, by-room, by-record}
 use Rattle.calls.specs.declared.BinAnswer.{BinAnswer}
 use Rattle.calls.specs.declared.BinAnswer.the-variants as B
-use Rattle.calls.proofs.ByVerdict.{file-refused, file-accepted, by-file-verdict, cut-accepted, reason, by-reason}
+use Rattle.calls.proofs.ByVerdict.{file-refused, file-accepted, by-file-verdict, cut-accepted, reason, by-reason, Answers, answers-exactly, BinAnswered, bin-answers}
 use Rattle.dualpol.proofs.Answering.{no-ray, no-bin}
 use Rattle.dualpol.specs.Answers.{summaryOf, openAnswer, OpenPromise, cutAnswer, CutPromise, binOf, binOn, binAnswer, RightIn, BinPromise}
 use Rattle.dualpol.specs.declared.DualSummary.{DualSummary}
@@ -125,6 +126,35 @@ pub refused-bin : (s : List ℕ) (i ray bin : ℕ) (q : Refusal) (a : BinAnswer)
 unfolding binAnswer
 refused-bin s i ray bin q a h p =
     p .answer ∙ by-reason dualChecks dualFormat exact s B.Refused (binOn s ray bin) i (Asking (BinWrong s ray bin)) q (bin-fault s ray bin) h
+
+-- ── and they answer exactly where no reason to refuse holds ──
+
+open-answers : Answers O.Refused (λ a. (m : DualSummary) × (a ≡ O.File m))
+open-answers = record { one-of = one-of; not-both = λ q h. let z : _≡_ {A = ℕ} 0 1 = cc (h .1) in omega arith }
+  where
+    one-of : (a : DualOpened) → ((m : DualSummary) × (a ≡ O.File m)) ⊎ ((q : Refusal) × (a ≡ O.Refused q))
+    one-of (O.File m) = inl (m, refl)
+    one-of (O.Refused q) = inr (q, refl)
+
+grid-answers : Answers C.Refused (λ a. (m : Grid) × (a ≡ C.Cut m))
+grid-answers = record { one-of = one-of; not-both = λ q h. let z : _≡_ {A = ℕ} 0 1 = cc (h .1) in omega arith }
+  where
+    one-of : (a : DualCut) → ((m : Grid) × (a ≡ C.Cut m)) ⊎ ((q : Refusal) × (a ≡ C.Refused q))
+    one-of (C.Cut m) = inl (m, refl)
+    one-of (C.Refused q) = inr (q, refl)
+
+module _ (s : List ℕ) where
+  pub open-answered : (a : DualOpened) → OpenPromise s a → ((m : DualSummary) × (a ≡ O.File m)) ↔ ((q : Refusal) → RefusedBy s q → ⊥)
+  open-answered a p = answers-exactly open-answers a (RefusedBy s) (λ q e. open-refused s q (subst (OpenPromise s) e p)) (λ q w. refused-open s q a w p)
+
+  pub cut-answered : (i : ℕ) (a : DualCut) → CutPromise s i a → ((m : Grid) × (a ≡ C.Cut m)) ↔ ((q : Refusal) → CutReasons s i q → ⊥)
+  cut-answered i a p = answers-exactly grid-answers a (CutReasons s i) (λ q e. cut-refused s i q (subst (CutPromise s i) e p)) (λ q w. refused-cut s i q a w p)
+
+  pub bin-answered : (i ray bin : ℕ) (a : BinAnswer) → BinPromise s i ray bin a → BinAnswered a ↔ ((q : Refusal) → BinReasons s i ray bin q → ⊥)
+  bin-answered i ray bin a p =
+      answers-exactly bin-answers a (BinReasons s i ray bin)
+      (λ q e. bin-refused s i ray bin q (subst (BinPromise s i ray bin) e p))
+      (λ q w. refused-bin s i ray bin q a w p)
 
 -- ── a cut of an accepted file ──
 

@@ -1,7 +1,8 @@
--- Wish 4, "Refusals", both ways: a call refuses by exactly the reasons of `records` specs/Reasons.antt, and then no lent memory has changed; by a record it never refuses by 8.
+-- Wish 4, "Refusals", both ways: a call refuses by exactly the reasons of `records` specs/Reasons.antt, and answers exactly where none of them holds; then no lent memory has changed; by a record it never refuses by 8.
 -- The idea: the answer is a function of the verdict and of three tests.
 use Prim.Native.Nat.{ℕ, _≤_, _<_, min}
-use mathlib.Core.Path.{_≡_, refl, sym, _∙_}
+use mathlib.Core.Path.{_≡_, refl, sym, _∙_, subst}
+use mathlib.Core.Logic.{_↔_}
 use mathlib.Core.Bool.{Bool, true, false, cond}
 use mathlib.Core.List.{List}
 use native.Mathlib.Omega.{arith}
@@ -24,7 +25,7 @@ use Rattle.cuts.specs.Records.{usableIn}
 use Rattle.calls.specs.Reasons.{by-file, no-cut, on-cut, by-argument, by-room, by-record}
 use Rattle.calls.specs.declared.RayAnswer.{RayAnswer}
 use Rattle.calls.specs.declared.RayAnswer.the-variants.{Written, Refused}
-use Rattle.calls.proofs.ByVerdict.{reason, by-reason}
+use Rattle.calls.proofs.ByVerdict.{reason, by-reason, answers-exactly, ray-answers}
 use Rattle.records.specs.Records.{fromOn, fromAnswer, levelsFrom, marksFrom, valuesFrom, buildOn, buildAnswer, rowAfter}
 use Rattle.records.specs.Promises.{BuildPromise, LevelsFromPromise, ValuesFromPromise}
 use Rattle.records.specs.Reasons.{BuildFault, BuildReasons, FromFault, FromReasons}
@@ -121,3 +122,26 @@ build-fault s room c r (by-record right fits w) = absurd w
 pub refused-build : (s : List ℕ) (i : ℕ) (q : Refusal) (row row′ : List RayRecord) (r : RayAnswer) → BuildReasons s i (length row) q → BuildPromise s i row r row′ → r ≡ Refused q
 unfolding buildAnswer
 refused-build s i q row row′ r h p = p .answer ∙ by-reason baseChecks baseFormat exact s Refused (buildOn s (length row)) i (BuildFault s (length row)) q (build-fault s (length row)) h
+
+-- ── and each answers exactly where no reason to refuse holds ──
+
+module _ (s : List ℕ) (i : ℕ) where
+  pub levels-from-answered : (ray : ℕ) (rec : RayRecord) (out out′ : List ℕ) (a : RayAnswer) → LevelsFromPromise s i ray rec out a out′
+      → (a ≡ Written) ↔ ((q : Refusal) → FromReasons s i ray (length out) rec q → ⊥)
+  levels-from-answered ray rec out out′ a p =
+      answers-exactly ray-answers a (FromReasons s i ray (length out) rec)
+      (λ q e. levels-from-refused s i ray rec q out out′ (subst (λ (x : RayAnswer). LevelsFromPromise s i ray rec out x out′) e p) .0)
+      (λ q w. refused-levels-from s i ray rec q out out′ a w p)
+
+  pub values-from-answered : (ray : ℕ) (rec : RayRecord) (marks marks′ : List ℕ) (values values′ : List ℤ) (a : RayAnswer) → ValuesFromPromise s i ray rec marks values a marks′ values′
+      → (a ≡ Written) ↔ ((q : Refusal) → FromReasons s i ray (min (length marks) (length values)) rec q → ⊥)
+  values-from-answered ray rec marks marks′ values values′ a p =
+      answers-exactly ray-answers a (FromReasons s i ray (min (length marks) (length values)) rec)
+      (λ q e. values-from-refused s i ray rec q marks marks′ values values′ (subst (λ (x : RayAnswer). ValuesFromPromise s i ray rec marks values x marks′ values′) e p) .0)
+      (λ q w. refused-values-from s i ray rec q marks marks′ values values′ a w p)
+
+  pub build-answered : (row row′ : List RayRecord) (a : RayAnswer) → BuildPromise s i row a row′ → (a ≡ Written) ↔ ((q : Refusal) → BuildReasons s i (length row) q → ⊥)
+  build-answered row row′ a p =
+      answers-exactly ray-answers a (BuildReasons s i (length row))
+      (λ q e. build-refused s i q row row′ (subst (λ (x : RayAnswer). BuildPromise s i row x row′) e p) .0)
+      (λ q w. refused-build s i q row row′ a w p)
