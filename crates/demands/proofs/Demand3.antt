@@ -1,13 +1,13 @@
 -- DEMAND 3. For an accepted file, any cut of it and any permitted threshold, the stretch list holds every longest stretch of one kind on each ray, each
--- exactly once, by ray and then by first bin, and nothing else; the baseFormat are those of demand 2's bins. Fetched in portions from the first bin, with
--- room for an entry each time and each next point handed back, the portions joined are that list, and the fetching ends.
+-- exactly once, by ray and then by first bin, and nothing else; the kinds are those of demand 2's bins. Fetched in portions from the first bin, with
+-- room for an entry each time and each next point handed back, the portions joined are that list, the fetching can always go on, and it ends.
 -- The idea: a call hands over the front of the list from its point, and the list from the next point is what it left.
 use Prim.Native.Nat.{ℕ, suc, _+_, _-_, _*_, _/_, _≤_, _<_}
 use mathlib.Core.Path.{_≡_, refl, sym, _∙_, ap, subst}
 use mathlib.Core.List.{List, [], _∷_, _++_, append-assoc, append-nil}
 use mathlib.Core.Bool.{Bool, true, false, cond, _&&_}
 use native.Mathlib.Omega.{arith}
-use borrow.Author.Tests.{le-ltb, ltb-false}
+use borrow.Author.Tests.{lt-ltb, le-ltb, ltb-false}
 use lib.Dec.{ltb}
 use lib.ListN.{length, getD, take, drop, length-drop, take-append-drop}
 use lib.Seq.{take-at}
@@ -193,3 +193,61 @@ module _ (s : List ℕ) (cs : List Cut) (a : Accepted s cs) (i : ℕ) (lt : i < 
       nothing : (x : List Entry) → length x ≡ 0 → x ≡ []
       nothing [] g = refl
       nothing (y ∷ ys) g = absurd (omega arith)
+
+  -- ── and it can always go on ──
+
+  -- the first bin may be asked for
+  pub first-asked : rightPoint (binsIn s (getD cs i noCut)) (raysIn s (getD cs i noCut)) 0 0 ≡ true
+  unfolding rightPoint
+  first-asked =
+      let good = good-accepted s cs a i lt in
+      rw (lt-ltb 0 (raysIn s (getD cs i noCut)) (good .any .rays-some), lt-ltb 0 (binsIn s (getD cs i noCut)) (good .any .bins-some))
+
+  -- calls from a point that may be asked for end at one
+  chain-right : (n ray bin ray′ bin′ : ℕ) (es : List Entry) → Fetched s i t n ray bin es ray′ bin′
+      → rightPoint (binsIn s (getD cs i noCut)) (raysIn s (getD cs i noCut)) ray bin ≡ true
+      → rightPoint (binsIn s (getD cs i noCut)) (raysIn s (getD cs i noCut)) ray′ bin′ ≡ true
+  chain-right n ray bin ray′ bin′ es none h = h
+  chain-right n ray bin ray′ bin′ all (call {n = m} {words = words} {words′ = words′} {l = l} {fs = fs} es p e f) h =
+      let k = listing-is ray bin words words′ l p in
+      chain-right m (l .ray) (l .bin) ray′ bin′ fs f
+      (subst (λ (x : Listing). rightPoint (binsIn s (getD cs i noCut)) (raysIn s (getD cs i noCut)) (x .ray) (x .bin) ≡ true) (sym (k .answer)) (next-asked ray bin (length words)))
+
+  -- one call more, at the point where calls ended
+  one-more : (n ray bin ray′ bin′ : ℕ) (es fs : List Entry) (words words′ : List ℕ) (l : Listing) → Fetched s i t n ray bin es ray′ bin′
+      → StretchesPromise s i t ray′ bin′ words (S.Listed l) words′ → wordsOf fs ≡ take (perEntry * l .count) words′
+      → Fetched s i t (suc n) ray bin (es ++ fs) (l .ray) (l .bin)
+  one-more n ray bin ray′ bin′ es fs words words′ l none p h =
+      subst (λ (x : List Entry). Fetched s i t 1 ray bin x (l .ray) (l .bin)) (append-nil fs) (call fs p h none)
+  one-more n ray bin ray′ bin′ all fs words words′ l (call {n = m} {l = k} {fs = gs} es q e f) p h =
+      subst (λ (x : List Entry). Fetched s i t (suc n) ray bin x (l .ray) (l .bin)) (sym (append-assoc es gs fs))
+      (call es q e (one-more m (k .ray) (k .bin) ray′ bin′ gs fs words words′ l f p h))
+
+  -- after n calls from (ray, bin), which handed over the entries es, a call that answers r is one call more: it lists, and the point that it hands back may be asked for next
+  pub record GoesOn (n ray bin : ℕ) (es : List Entry) (r : StretchAnswer) : Type 0 where
+    pub listing : Listing
+    pub handed-over : List Entry
+    pub lists : r ≡ S.Listed listing
+    pub fetched : Fetched s i t (suc n) ray bin (es ++ handed-over) (listing .ray) (listing .bin)
+    pub next : rightPoint (binsIn s (getD cs i noCut)) (raysIn s (getD cs i noCut)) (listing .ray) (listing .bin) ≡ true
+
+  -- with a permitted threshold, from a point that may be asked for, as (0, 0), and with room for an entry: whatever outcome the promise allows
+  pub fetching-goes-on : rightT t ≡ true → (n ray bin ray′ bin′ : ℕ) (es : List Entry)
+      → rightPoint (binsIn s (getD cs i noCut)) (raysIn s (getD cs i noCut)) ray bin ≡ true → Fetched s i t n ray bin es ray′ bin′
+      → (words words′ : List ℕ) (r : StretchAnswer) → perEntry ≤ length words → StretchesPromise s i t ray′ bin′ words r words′ → GoesOn n ray bin es r
+  fetching-goes-on ht n ray bin ray′ bin′ es start f words words′ r room p =
+      let nr = raysIn s (getD cs i noCut) in
+      let L = listOf ray′ bin′ in
+      let fs = fitting (length words) L in
+      let l = answerOf nr (length words) L in
+      let k = call-lists ht ray′ bin′ (chain-right n ray bin ray′ bin′ es f start) words words′ r room p in
+      let count : l .count ≡ length fs = count-is nr (length words) L in
+      let words-are : take (perEntry * l .count) words′ ≡ wordsOf fs =
+      (λ j. take (perEntry * count j) (k .1 j)) ∙ take-at (wordsOf fs) (drop (length (wordsOf fs)) words) (perEntry * length fs) (length-words fs) in
+      record {
+        listing = l;
+        handed-over = fs;
+        lists = k .0;
+        fetched = one-more n ray bin ray′ bin′ es fs words words′ l f (subst (λ (x : StretchAnswer). StretchesPromise s i t ray′ bin′ words x words′) (k .0) p) (sym words-are);
+        next = next-asked ray′ bin′ (length words);
+      }
