@@ -1,3 +1,4 @@
 pub mod Cells
 pub mod Answering
 pub mod Told
+pub mod Samples

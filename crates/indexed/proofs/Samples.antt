@@ -1,11 +1,31 @@
 -- Small samples on which a wrong program would answer otherwise: the definitions compute. V is 10 throughout; the data `3 12 5` is two 3s (12 is the digit 1) and a 5.
 use Prim.Native.Nat.{ℕ}
-use mathlib.Core.Path.{_≡_, refl}
+use mathlib.Core.Path.{_≡_, refl, _∙_, ap}
 use mathlib.Core.Bool.{true, false}
 use mathlib.Core.List.{List, [], _∷_}
+use lib.ListN.{replicate}
+use Rattle.octets.specs.Octets.{be, inOctets}
+use Rattle.rules.specs.Rules.{field}
+use Rattle.rules.specs.Fields.{lengthAt, binsAt, raysAt}
+use Rattle.lent.specs.Lent.{front}
 use Rattle.runs.specs.Run.{levels, digitSum}
 use Rattle.index.specs.declared.RayRecord.{RayRecord}
 use Rattle.index.specs.Index.{usable, fromRecord, recordOf, records}
+use Rattle.values.specs.Published.{reflectivity, published, levelCount, valuesFrom, tableOf}
+use Rattle.values.specs.Table.{signMagnitude, octetsOf, tableOctets}
+use Rattle.sections.specs.Refusal.{refuse}
+use Rattle.sections.specs.Parts.{binsIn, raysIn}
+use Rattle.sections.specs.Verdict.{Verdict}
+use Rattle.sections.specs.declared.Why.the-variants.{Room, Record}
+use Rattle.base_format.specs.Fields.{greatestAt}
+use Rattle.base_format.specs.Parts.{dataAt, greatestIn}
+use Rattle.cuts.specs.Records.{recordsIn, usableIn, rayFrom}
+use Rattle.calls.specs.Cuts.{onCut, cutAt}
+use Rattle.calls.specs.declared.RayAnswer.{RayAnswer}
+use Rattle.calls.specs.declared.RayAnswer.the-variants.{Written, Refused}
+use Rattle.records.specs.Records.{buildOn, buildAnswer, rowAfter, fromOn, fromAnswer, levelsFrom}
+use Rattle.records.specs.Promises.{BuildPromise, LevelsFromPromise}
+use Rattle.demands.proofs.SampleFiles.{document, dataShort, verdicts}
 
 abbrev sample : List ℕ
 sample = 3 ∷ 12 ∷ 5 ∷ []
@@ -49,3 +69,40 @@ offset-at-digit = refl
 pub data-ends : usable 10 2 sample (at 2 0) ≡ false
 unfolding usable levels digitSum
 data-ends = refl
+
+-- ── whole files: the promises on those of `demands` SampleFiles.antt ──
+
+-- a record past the last ray written: the row has room for three, and the cut two rays
+pub build-two : (r : RayAnswer) (row : List RayRecord) → BuildPromise document 0 (at 7 7 ∷ at 8 8 ∷ at 9 9 ∷ []) r row → (r ≡ Written) × (row ≡ at 0 0 ∷ at 2 3 ∷ at 9 9 ∷ [])
+unfolding inOctets tableOctets octetsOf signMagnitude tableOf valuesFrom published reflectivity levelCount buildAnswer buildOn rowAfter onCut cutAt recordsIn records recordOf greatestIn dataAt digitSum raysIn binsIn lengthAt raysAt binsAt greatestAt field be
+build-two r row p =
+    let lent : List RayRecord = at 7 7 ∷ at 8 8 ∷ at 9 9 ∷ [] in
+    let w : r ≡ Written = p .answer ∙ ap (onCut Refused (buildOn document 3) 0) (verdicts .document-is) in (
+      w,
+      p .after ∙ ap (λ (x : RayAnswer). rowAfter x document 0 lent) w ∙ ap (λ (v : Verdict). front (recordsIn document (cutAt 0 v)) lent) (verdicts .document-is),
+    )
+
+-- a row with fewer records than rays taken
+pub build-short : (r : RayAnswer) (row : List RayRecord) → BuildPromise document 0 (at 7 7 ∷ []) r row → r ≡ Refused (refuse Room 0)
+unfolding inOctets tableOctets octetsOf signMagnitude tableOf valuesFrom published reflectivity levelCount buildAnswer buildOn onCut raysIn raysAt field be
+build-short r row p = p .answer ∙ ap (onCut Refused (buildOn document 1) 0) (verdicts .document-is)
+
+-- check 8 made after all: of a file whose data gives too few bins, ray 0 is read from its record
+pub eight-not-checked : (r : RayAnswer) (out : List ℕ) → LevelsFromPromise dataShort 0 0 (at 0 0) (replicate 6 9) r out → (r ≡ Written) × (out ≡ 0 ∷ 0 ∷ 130 ∷ 130 ∷ 130 ∷ 9 ∷ [])
+unfolding inOctets tableOctets octetsOf signMagnitude tableOf valuesFrom published reflectivity levelCount fromAnswer fromOn levelsFrom onCut cutAt usableIn usable rayFrom greatestIn dataAt levels digitSum raysIn binsIn lengthAt raysAt binsAt greatestAt field be
+eight-not-checked r out p =
+    let lent : List ℕ = replicate 6 9 in
+    let w : r ≡ Written = p .answer ∙ ap (onCut Refused (fromOn dataShort 0 (at 0 0) 6) 0) (verdicts .data-short-any) in (
+      w,
+      p .after ∙ ap (λ (x : RayAnswer). levelsFrom x dataShort 0 (at 0 0) lent) w ∙ ap (λ (v : Verdict). front (rayFrom dataShort (cutAt 0 v) (at 0 0)) lent) (verdicts .data-short-any),
+    )
+
+-- 13 at a wrong place: from the record of ray 1 that data ends early, and the place is section 7's start
+pub record-at-section-7 : (r : RayAnswer) (out : List ℕ) → LevelsFromPromise dataShort 0 1 (at 2 3) (replicate 6 9) r out → r ≡ Refused (refuse Record 673)
+unfolding inOctets tableOctets octetsOf signMagnitude tableOf valuesFrom published reflectivity levelCount fromAnswer fromOn onCut usableIn usable greatestIn dataAt levels digitSum raysIn binsIn lengthAt raysAt binsAt greatestAt field be
+record-at-section-7 r out p = p .answer ∙ ap (onCut Refused (fromOn dataShort 1 (at 2 3) 6) 0) (verdicts .data-short-any)
+
+-- 13 tested before 11: the same record, and no room
+pub room-before-record : (r : RayAnswer) (out : List ℕ) → LevelsFromPromise dataShort 0 1 (at 2 3) [] r out → r ≡ Refused (refuse Room 0)
+unfolding inOctets tableOctets octetsOf signMagnitude tableOf valuesFrom published reflectivity levelCount fromAnswer fromOn onCut usableIn usable greatestIn dataAt levels digitSum raysIn binsIn lengthAt raysAt binsAt greatestAt field be
+room-before-record r out p = p .answer ∙ ap (onCut Refused (fromOn dataShort 1 (at 2 3) 0) 0) (verdicts .data-short-any)

@@ -1,0 +1,181 @@
+-- Small whole files, and the verdict on each, computed: the samples of Wrong.antt. Each is made section by section, so that the octet that matters stands in sight.
+use Prim.Native.Nat.{ℕ, _+_, _*_}
+use mathlib.Core.Path.{_≡_, refl}
+use mathlib.Core.List.{List, [], _∷_, _++_}
+use lib.ListN.{length, drop, replicate}
+use Rattle.octets.specs.Octets.{be, same, inOctets}
+use Rattle.rules.specs.Rules.{field, meets, meetsAll, rules0, rules1, rules6, rules8}
+use Rattle.rules.specs.Fields.{lengthAt, numberAt, binsAt, raysAt, pointsAt, parameterAt}
+use Rattle.runs.specs.Run.{digitSum, levels, gives}
+use Rattle.values.specs.Published.{levelCount, reflectivity, velocityEven, velocity, published, valuesFrom, tableOf}
+use Rattle.values.specs.Table.{signMagnitude, octetsOf, tableOctets, tableRight}
+use Rattle.values.specs.declared.Product.the-variants.{Reflectivity, Velocity}
+use Rattle.sections.specs.Refusal.{refuse}
+use Rattle.sections.specs.Checks.{follows, framed, roomForCut, sectionChecks, closes, checksAt}
+use Rattle.sections.specs.History.{lastSeen, firstSeen, cutsOf, cutsSeen, contextOf}
+use Rattle.sections.specs.Verdict.{accepted, refused, sections, sized, verdictBy}
+use Rattle.sections.specs.declared.Cut.{Cut}
+use Rattle.sections.specs.declared.Why.the-variants.{SectionLength, Field, Points, Data}
+use Rattle.base_format.specs.Rules.{rules3, rules4, rules5}
+use Rattle.base_format.specs.Fields.{siteAt, greatestAt, countAt}
+use Rattle.base_format.specs.Parts.{productOf, tableAt, dataAt}
+use Rattle.base_format.specs.Checks.{baseChecks, anyDataChecks}
+use Rattle.base_format.specs.Verdict.{verdict, anyDataVerdict}
+
+-- ── the sections ──
+
+-- a file of n octets in all: section 0; section 1, of 2026-06-14, 03:40:59; the sections of its cuts; section 8
+abbrev pub file : ℕ → List ℕ → List ℕ
+file n cuts =
+    (71 ∷ 82 ∷ 73 ∷ 66 ∷ 255 ∷ 255 ∷ 0 ∷ 2 ∷ [])
+    ++ inOctets 8 n
+    ++ (0 ∷ 0 ∷ 0 ∷ 21 ∷ 1 ∷ 0 ∷ 34 ∷ 0 ∷ 0 ∷ 3 ∷ 1 ∷ 3 ∷ [])
+    ++ inOctets 2 2026
+    ++ (6 ∷ 14 ∷ 3 ∷ 40 ∷ 59 ∷ 0 ∷ 7 ∷ [])
+    ++ cuts
+    ++ (55 ∷ 55 ∷ 55 ∷ 55 ∷ [])
+
+-- 3: a point count, Nb, Nr, the latitude's four octets as a number; octet 39
+abbrev pub three : ℕ → ℕ → ℕ → ℕ → ℕ → List ℕ
+three points nb nr latitude octet39 =
+    (0 ∷ 0 ∷ 0 ∷ 41 ∷ 3 ∷ 0 ∷ [])
+    ++ inOctets 4 points
+    ++ (0 ∷ 0 ∷ [])
+    ++ inOctets 2 50120
+    ++ inOctets 4 nb
+    ++ inOctets 4 nr
+    ++ inOctets 4 latitude
+    ++ inOctets 4 139959722
+    ++ inOctets 4 500000
+    ++ inOctets 4 250
+    ++ (octet39 ∷ [])
+    ++ inOctets 2 4500
+
+-- 4: the parameter, the site, the elevation constant's two octets as a number, Nr
+abbrev pub four : ℕ → ℕ → ℕ → ℕ → List ℕ
+four parameter site elevation nr =
+    inOctets 4 (60 + 4 * nr)
+    ++ (4 ∷ 0 ∷ 0 ∷ [])
+    ++ inOctets 2 51022
+    ++ (15 ∷ parameter ∷ 8 ∷ 1 ∷ 13 ∷ [])
+    ++ replicate 14 255
+    ++ inOctets 2 site
+    ++ replicate 7 255
+    ++ (2 ∷ 255 ∷ 255 ∷ 255 ∷ [])
+    ++ inOctets 2 elevation
+    ++ replicate 17 255
+    ++ replicate (4 * nr) 0
+
+-- 5: a point count, V, M as read, the value table
+abbrev pub five : ℕ → ℕ → ℕ → List ℕ → List ℕ
+five points v m table =
+    inOctets 4 (17 + length table)
+    ++ (5 ∷ [])
+    ++ inOctets 4 points
+    ++ inOctets 2 200
+    ++ (8 ∷ [])
+    ++ inOctets 2 v
+    ++ inOctets 2 m
+    ++ (2 ∷ [])
+    ++ table
+
+-- 6 and 7: the data
+abbrev pub rest : List ℕ → List ℕ
+rest octets = (0 ∷ 0 ∷ 0 ∷ 6 ∷ 6 ∷ 255 ∷ []) ++ inOctets 4 (5 + length octets) ++ (7 ∷ []) ++ octets
+
+abbrev pub reflectivityTable : List ℕ
+reflectivityTable = tableOctets Reflectivity
+
+abbrev pub velocityTable : List ℕ
+velocityTable = tableOctets Velocity
+
+abbrev pub cutOf : ℕ → ℕ → ℕ → ℕ → Cut
+cutOf a b c d = record { section3 = a; section4 = b; section5 = c; section7 = d }
+
+-- ── the files ──
+
+-- as FORMAT.md's example under "The lister": reflectivity, two rays of five bins, V 130. With what may be spoiled: the point count and octet 39 of section 3; the
+-- point count, M and the value table of section 5; the data
+abbrev pub likeDocument : ℕ → ℕ → ℕ → ℕ → List ℕ → List ℕ → List ℕ
+likeDocument points octet39 points5 m table octets =
+    file 689 (three points 5 2 35859722 octet39 ++ four 1 47695 130 2 ++ five points5 130 m table ++ rest octets)
+
+abbrev pub tenBins : List ℕ
+tenBins = 0 ∷ 132 ∷ 130 ∷ 134 ∷ 1 ∷ 133 ∷ 0 ∷ []
+
+abbrev pub document : List ℕ
+document = likeDocument 10 0 10 252 reflectivityTable tenBins
+
+-- the data gives nine bins
+abbrev pub dataShort : List ℕ
+dataShort = likeDocument 10 0 10 252 reflectivityTable (0 ∷ 132 ∷ 130 ∷ 134 ∷ 1 ∷ 132 ∷ 0 ∷ [])
+
+-- section 3: octet 39 is 1, and eleven points are said
+abbrev pub fieldAndPoints : List ℕ
+fieldAndPoints = likeDocument 11 1 10 252 reflectivityTable tenBins
+
+-- section 5: eleven points are said, and the first value is 1
+abbrev pub pointsAndTable : List ℕ
+pointsAndTable = likeDocument 10 0 11 252 (0 ∷ 1 ∷ drop 2 reflectivityTable) tenBins
+
+-- section 5: 521 octets, and M says 251
+abbrev pub lengthNotByM : List ℕ
+lengthNotByM = likeDocument 10 0 10 251 reflectivityTable tenBins
+
+-- velocity, one ray of four bins of 39.50, 40.00, -40.00 m/s and no data; its section 5 has 519 octets
+abbrev pub wind : List ℕ
+wind = file 680 (three 4 4 1 35859722 0 ++ four 2 47695 130 1 ++ five 4 251 251 velocityTable ++ rest (158 ∷ 160 ∷ 161 ∷ 0 ∷ []))
+
+-- two cuts, each with a section 3 of its own: one ray of two bins at latitude -0.000005, of 5.60 dBZ and no data, its elevation missing; three rays of one bin at latitude
+-- 0.000007, its elevation -0.05. With what may be spoiled: the second cut's parameter and site
+abbrev pub likeTwo : ℕ → ℕ → List ℕ
+likeTwo parameter site =
+    file 1328
+    (three 2 2 1 0x80000005 0
+    ++ four 1 47695 0xFFFF 1
+    ++ five 2 252 252 reflectivityTable
+    ++ rest (19 ∷ 0 ∷ [])
+    ++ three 3 1 3 7 0
+    ++ four parameter site 0x8005 3
+    ++ five 3 252 252 reflectivityTable
+    ++ rest (3 ∷ 5 ∷ 7 ∷ []))
+
+abbrev pub twoCuts : List ℕ
+twoCuts = likeTwo 1 47695
+
+abbrev pub otherParameter : List ℕ
+otherParameter = likeTwo 2 47695
+
+abbrev pub otherSite : List ℕ
+otherSite = likeTwo 1 47696
+
+-- ── the verdicts ──
+
+pub record Verdicts : Type 0 where
+  pub document-is : verdict document ≡ accepted (cutOf 37 78 146 673 ∷ [])
+  pub wind-is : verdict wind ≡ accepted (cutOf 37 78 142 667 ∷ [])
+  pub two-are : verdict twoCuts ≡ accepted (cutOf 37 78 142 669 ∷ cutOf 676 717 789 1316 ∷ [])
+  pub data-short : verdict dataShort ≡ refused (refuse Data 673)
+  -- without check 8
+  pub data-short-any : anyDataVerdict dataShort ≡ accepted (cutOf 37 78 146 673 ∷ [])
+  pub field-first : verdict fieldAndPoints ≡ refused (refuse Field 37)
+  pub points-first : verdict pointsAndTable ≡ refused (refuse Points 146)
+  pub length-by-m : verdict lengthNotByM ≡ refused (refuse SectionLength 146)
+  pub parameter-compared : verdict otherParameter ≡ refused (refuse Field 717)
+  pub site-compared : verdict otherSite ≡ refused (refuse Field 717)
+
+pub verdicts : Verdicts
+unfolding be same inOctets field meets meetsAll rules0 rules1 rules3 rules4 rules5 rules6 rules8 lengthAt numberAt binsAt raysAt pointsAt parameterAt siteAt greatestAt countAt levels digitSum gives levelCount reflectivity velocityEven velocity published valuesFrom tableOf signMagnitude octetsOf tableOctets tableRight refuse follows framed roomForCut sectionChecks closes checksAt lastSeen firstSeen cutsOf cutsSeen contextOf sections sized verdictBy productOf tableAt dataAt baseChecks anyDataChecks
+verdicts =
+    record {
+      document-is = refl;
+      wind-is = refl;
+      two-are = refl;
+      data-short = refl;
+      data-short-any = refl;
+      field-first = refl;
+      points-first = refl;
+      length-by-m = refl;
+      parameter-compared = refl;
+      site-compared = refl;
+    }

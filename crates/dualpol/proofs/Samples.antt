@@ -1,0 +1,156 @@
+-- WRONG PROGRAMS that read a dual-polarisation file, each shut out on a small whole file whose verdict is computed: what the promise allows there is written out. The line above
+-- each theorem names the program.
+use Prim.Native.Nat.{ℕ}
+use mathlib.Core.Path.{_≡_, refl, _∙_, ap}
+use mathlib.Core.List.{List, [], _∷_, _++_}
+use mathlib.Core.Bool.{false}
+use lib.IntN.{pos, negsuc}
+use lib.ListN.{replicate}
+use lib.Ieee.{fin, add, div, ofInt, ofBits}
+use Rattle.octets.specs.Octets.{be, signed, inOctets}
+use Rattle.rules.specs.Rules.{field, meets, meetsAll, rules0, rules1, rules6, rules8}
+use Rattle.rules.specs.Fields.{lengthAt, numberAt, binsAt, raysAt, pointsAt, parameterAt}
+use Rattle.scaled.specs.Scaled.{cellOf, scaledValue}
+use Rattle.sections.specs.Refusal.{refuse}
+use Rattle.sections.specs.Checks.{follows, framed, roomForCut, sectionChecks, closes, checksAt}
+use Rattle.sections.specs.History.{lastSeen, firstSeen, cutsOf, cutsSeen, contextOf}
+use Rattle.sections.specs.Parts.{binsIn, raysIn, timeOf, gridAt}
+use Rattle.sections.specs.Verdict.{accepted, refused, sections, sized, verdictBy}
+use Rattle.sections.specs.declared.Refusal.{Refusal}
+use Rattle.sections.specs.declared.Why.the-variants.{Field, Points, Argument, Unread}
+use Rattle.dual_format.specs.Rules.{rules3, scanRules, rules4, rules5}
+use Rattle.dual_format.specs.Fields.{withLists, siteAt, referenceAt, binaryAt, decimalAt, widthAt, length7}
+use Rattle.dual_format.specs.Checks.{dualChecks}
+use Rattle.dual_format.specs.Verdict.{verdict}
+use Rattle.dual_format.specs.Parts.{referenceIn, binaryIn, decimalIn, widthIn, cellIn, toldIn}
+use Rattle.calls.specs.Cuts.{onFile, onCut}
+use Rattle.calls.specs.declared.BinAnswer.{BinAnswer}
+use Rattle.calls.specs.declared.BinAnswer.the-variants as B
+use Rattle.dualpol.specs.Answers.{summaryOf, openAnswer, OpenPromise, cutAnswer, CutPromise, binOf, binOn, binAnswer, BinPromise}
+use Rattle.dualpol.specs.declared.DualOpened.{DualOpened}
+use Rattle.dualpol.specs.declared.DualOpened.the-variants as O
+use Rattle.dualpol.specs.declared.DualCut.{DualCut}
+use Rattle.dualpol.specs.declared.DualCut.the-variants as C
+
+-- ── the files ──
+
+-- two rays of two bins, in cells of 16 bits: 201, all ones; 3, 258. R is -1.5, E 1 and D 2; each ray's elevation is stored. With what may be spoiled: octet 39 and the point count
+-- of section 3; E, the width and the point count of section 5
+abbrev pub like : ℕ → ℕ → ℕ → ℕ → ℕ → List ℕ
+like octet39 points e width points5 =
+    (71 ∷ 82 ∷ 73 ∷ 66 ∷ 255 ∷ 255 ∷ 0 ∷ 2 ∷ [])
+    ++ inOctets 8 206
+    ++ (0 ∷ 0 ∷ 0 ∷ 21 ∷ 1 ∷ 0 ∷ 34 ∷ 0 ∷ 0 ∷ 3 ∷ 1 ∷ 3 ∷ [])
+    ++ inOctets 2 2026
+    ++ (6 ∷ 14 ∷ 3 ∷ 40 ∷ 59 ∷ 0 ∷ 7 ∷ [])
+    ++ (0 ∷ 0 ∷ 0 ∷ 62 ∷ 3 ∷ 0 ∷ [])
+    ++ inOctets 4 points
+    ++ (0 ∷ 0 ∷ [])
+    ++ inOctets 2 50121
+    ++ inOctets 4 2
+    ++ inOctets 4 2
+    ++ inOctets 4 0x80000005
+    ++ inOctets 4 139959722
+    ++ inOctets 4 250000
+    ++ inOctets 4 125
+    ++ (octet39 ∷ [])
+    ++ replicate 13 255
+    ++ (0 ∷ 1 ∷ [])
+    ++ replicate 8 0
+    ++ (0 ∷ 0 ∷ 0 ∷ 63 ∷ 4 ∷ 0 ∷ 0 ∷ [])
+    ++ inOctets 2 51123
+    ++ (15 ∷ 195 ∷ 8 ∷ 1 ∷ [])
+    ++ replicate 14 255
+    ++ inOctets 2 47695
+    ++ (255 ∷ 255 ∷ 13 ∷ [])
+    ++ replicate 9 255
+    ++ (2 ∷ [])
+    ++ replicate 13 255
+    ++ replicate 8 0
+    ++ (0 ∷ 0 ∷ 0 ∷ 21 ∷ 5 ∷ [])
+    ++ inOctets 4 points5
+    ++ (0 ∷ 0 ∷ [])
+    ++ inOctets 4 0xBFC00000
+    ++ inOctets 2 e
+    ++ inOctets 2 2
+    ++ (width ∷ 255 ∷ [])
+    ++ (0 ∷ 0 ∷ 0 ∷ 6 ∷ 6 ∷ 255 ∷ [])
+    ++ (0 ∷ 0 ∷ 0 ∷ 13 ∷ 7 ∷ [])
+    ++ inOctets 2 201
+    ++ inOctets 2 0xFFFF
+    ++ inOctets 2 3
+    ++ inOctets 2 258
+    ++ (55 ∷ 55 ∷ 55 ∷ 55 ∷ [])
+
+abbrev pub four-cells : List ℕ
+four-cells = like 0 4 1 16 4
+
+-- E is 3, the width 64, and five points are said
+abbrev pub field-unread-points : List ℕ
+field-unread-points = like 0 4 3 64 5
+
+abbrev pub unread-points : List ℕ
+unread-points = like 0 4 1 64 5
+
+-- an RHI scan, and five points are said
+abbrev pub rhi : List ℕ
+rhi = like 1 5 1 16 4
+
+pub record Verdicts : Type 0 where
+  pub cells-are : verdict four-cells ≡ accepted (record { section3 = 37; section4 = 99; section5 = 162; section7 = 189 } ∷ [])
+  pub field-first : verdict field-unread-points ≡ refused (refuse Field 162)
+  pub unread-next : verdict unread-points ≡ refused (refuse Unread 162)
+  pub no-rhi : verdict rhi ≡ refused (refuse Unread 37)
+
+verdicts : Verdicts
+unfolding be inOctets field meets meetsAll rules0 rules1 rules3 scanRules rules4 rules5 rules6 rules8 lengthAt numberAt binsAt raysAt pointsAt parameterAt siteAt referenceAt widthAt withLists length7 refuse follows framed roomForCut sectionChecks closes checksAt lastSeen firstSeen cutsOf cutsSeen contextOf sections sized verdictBy dualChecks
+verdicts = record { cells-are = refl; field-first = refl; unread-next = refl; no-rhi = refl }
+
+-- ── the promises on them ──
+
+open-by : (s : List ℕ) (q : Refusal) → verdict s ≡ refused q → (r : DualOpened) → OpenPromise s r → r ≡ O.Refused q
+unfolding openAnswer onFile
+open-by s q h r p = p ∙ ap (onFile O.Refused (λ n c. O.File (summaryOf s n c))) h
+
+-- 14 tested before 5
+pub field-before-unread : (r : DualOpened) → OpenPromise field-unread-points r → r ≡ O.Refused (refuse Field 162)
+field-before-unread = open-by field-unread-points _ (verdicts .field-first)
+
+-- 6 tested before 14; a width of 64 taken
+pub unread-before-points : (r : DualOpened) → OpenPromise unread-points r → r ≡ O.Refused (refuse Unread 162)
+unread-before-points = open-by unread-points _ (verdicts .unread-next)
+
+-- an RHI scan taken
+pub rhi-unread : (r : DualOpened) → OpenPromise rhi r → r ≡ O.Refused (refuse Unread 37)
+rhi-unread = open-by rhi _ (verdicts .no-rhi)
+
+-- a wrong time or count; the site from the base format's octets; a parameter of the base format alone; a section 4 of 61 octets only; no list for each ray
+pub open-cells : (r : DualOpened) → OpenPromise four-cells r
+    → r ≡ O.File (record { parameter = 195; time = record { year = 2026; month = 6; day = 14; hour = 3; minute = 40; second = 59 }; site = 47695; cuts = 1 })
+unfolding inOctets openAnswer onFile timeOf parameterAt siteAt field be
+open-cells r p = p ∙ ap (onFile O.Refused (λ n c. O.File (summaryOf four-cells n c))) (verdicts .cells-are)
+
+-- latitude as two's complement
+pub cut-cells : (r : DualCut) → CutPromise four-cells 0 r → r ≡ C.Cut (record { nb = 2; nr = 2; latitude = negsuc 4; longitude = 139959722; dx = 250000; dstart = 125 })
+unfolding inOctets cutAnswer onCut gridAt binsAt raysAt signed field be
+cut-cells r p = p ∙ ap (onCut C.Refused (λ c. C.Cut (gridAt four-cells (c .section3))) 0) (verdicts .cells-are)
+
+-- all ones given a number
+pub all-ones-missing : (r : BinAnswer) → BinPromise four-cells 0 0 1 r → r ≡ B.Missing
+unfolding inOctets binAnswer onCut binOn binOf toldIn cellOf cellIn widthIn widthAt binsIn raysIn binsAt raysAt field be
+all-ones-missing r p = p .answer ∙ ap (onCut B.Refused (binOn four-cells 0 1) 0) (verdicts .cells-are)
+
+-- another bin's cell; the sign of R dropped; E as decimal; D as binary: (-1.5 + 3 x 2) / 100 is 0.045
+pub ray-1-bin-0 : (r : BinAnswer) → BinPromise four-cells 0 1 0 r → r ≡ B.Value (fin false 3242591731706757 (negsuc 55))
+unfolding inOctets binAnswer onCut binOn binOf toldIn cellOf scaledValue add div ofInt ofBits cellIn referenceIn binaryIn decimalIn widthIn referenceAt binaryAt decimalAt widthAt binsIn raysIn binsAt raysAt field be
+ray-1-bin-0 r p = p .answer ∙ ap (onCut B.Refused (binOn four-cells 1 0) 0) (verdicts .cells-are)
+
+-- 16-bit cells read least octet first: 0x0102 is 258, and (-1.5 + 258 x 2) / 100 is 5.145
+pub ray-1-bin-1 : (r : BinAnswer) → BinPromise four-cells 0 1 1 r → r ≡ B.Value (fin false 1448188755176325 (negsuc 47))
+unfolding inOctets binAnswer onCut binOn binOf toldIn cellOf scaledValue add div ofInt ofBits cellIn referenceIn binaryIn decimalIn widthIn referenceAt binaryAt decimalAt widthAt binsIn raysIn binsAt raysAt field be
+ray-1-bin-1 r p = p .answer ∙ ap (onCut B.Refused (binOn four-cells 1 1) 0) (verdicts .cells-are)
+
+-- a bin past the ray taken
+pub bin-past-ray : (r : BinAnswer) → BinPromise four-cells 0 0 2 r → r ≡ B.Refused (refuse Argument 0)
+unfolding inOctets binAnswer onCut binOn binsIn raysIn binsAt raysAt field be
+bin-past-ray r p = p .answer ∙ ap (onCut B.Refused (binOn four-cells 0 2) 0) (verdicts .cells-are)
