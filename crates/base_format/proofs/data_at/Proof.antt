@@ -12,30 +12,6 @@ use borrow.Author.Needs.{needs}
 use Rattle.base_format.proofs.data_at.Statement.{statement}
 use Rattle.base_format.proofs.data_at.Tie as tie
 
-add-from : tie.Need-add-from
-add-from c = search needs
-
-end-at-requires : tie.Need-end-at-requires
-end-at-requires c κs = search needs
-
-sub-scan-runs : tie.Need-sub-scan-runs
-sub-scan-runs c = search needs
-
-part-scan-runs-start : tie.Need-part-scan-runs-start
-part-scan-runs-start c = search needs
-
-part-scan-runs-end : tie.Need-part-scan-runs-end
-part-scan-runs-end c = search needs
-
-scan-runs-requires : tie.Need-scan-runs-requires
-scan-runs-requires c κs = search needs
-
-enum-told : tie.Need-enum-told
-enum-told c = search needs
-
-enum-told-2 : tie.Need-enum-told-2
-enum-told-2 c = search needs
-
 returns : tie.Need-returns
 unfolding dataAt
 returns c = let a = c .before .before .before .before .before .before .args in
@@ -54,15 +30,5 @@ returns-2 c = let a = c .before .before .before .before .before .before .args in
 
 pub data-at-spec : {M : Type 1} → statement M
 data-at-spec =
-    tie.close
-    (tie.spec
-    add-from
-    end-at-requires
-    sub-scan-runs
-    part-scan-runs-start
-    part-scan-runs-end
-    scan-runs-requires
-    enum-told
-    enum-told-2
-    returns
-    returns-2)
+    tie.close (tie.spec (λ c. search needs) (λ c κs. search needs) (λ c. search needs) (λ c. search needs)
+    (λ c. search needs) (λ c κs. search needs) (λ c. search needs) (λ c. search needs) returns returns-2)

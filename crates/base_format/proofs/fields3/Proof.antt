@@ -8,15 +8,6 @@ use Rattle.rules.proofs.Chains.{both, flat, meets-append}
 use Rattle.base_format.proofs.fields3.Statement.{statement}
 use Rattle.base_format.proofs.fields3.Tie as tie
 
-grid-fields-requires : tie.Need-grid-fields-requires
-grid-fields-requires c κs = search needs
-
-within8-requires : tie.Need-within8-requires
-within8-requires c κs = search needs
-
-within16-requires : tie.Need-within16-requires
-within16-requires c κs = search needs
-
 returns : tie.Need-returns
 unfolding rules3
 returns c =
@@ -28,10 +19,4 @@ returns c =
     ∙ sym (meets-append (now (a .s)) (a .at) (gridRules 50120) scanRules)
 
 pub fields3-spec : {M : Type 1} → statement M
-fields3-spec =
-    tie.close
-    (tie.spec
-    grid-fields-requires
-    within8-requires
-    within16-requires
-    returns)
+fields3-spec = tie.close (tie.spec (λ c κs. search needs) (λ c κs. search needs) (λ c κs. search needs) returns)

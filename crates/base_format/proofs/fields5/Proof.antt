@@ -8,21 +8,6 @@ use Rattle.rules.proofs.Chains.{both, flat}
 use Rattle.base_format.proofs.fields5.Statement.{statement}
 use Rattle.base_format.proofs.fields5.Tie as tie
 
-within16-requires : tie.Need-within16-requires
-within16-requires c κs = search needs
-
-within8-requires : tie.Need-within8-requires
-within8-requires c κs = search needs
-
-within16-requires-2 : tie.Need-within16-requires-2
-within16-requires-2 c κs = search needs
-
-within16-requires-3 : tie.Need-within16-requires-3
-within16-requires-3 c κs = search needs
-
-within8-requires-2 : tie.Need-within8-requires-2
-within8-requires-2 c κs = search needs
-
 returns : tie.Need-returns
 unfolding rules5
 returns c =
@@ -36,11 +21,5 @@ returns c =
 
 pub fields5-spec : {M : Type 1} → statement M
 fields5-spec =
-    tie.close
-    (tie.spec
-    within16-requires
-    within8-requires
-    within16-requires-2
-    within16-requires-3
-    within8-requires-2
-    returns)
+    tie.close (tie.spec (λ c κs. search needs) (λ c κs. search needs) (λ c κs. search needs)
+    (λ c κs. search needs) (λ c κs. search needs) returns)

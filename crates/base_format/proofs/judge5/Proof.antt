@@ -10,21 +10,6 @@ use borrow.Author.Needs.{needs}
 use Rattle.base_format.proofs.judge5.Statement.{statement}
 use Rattle.base_format.proofs.judge5.Tie as tie
 
-length-at-requires : tie.Need-length-at-requires
-length-at-requires c κs = search needs
-
-count-at-requires : tie.Need-count-at-requires
-count-at-requires c κs = search needs
-
-wide16-requires : tie.Need-wide16-requires
-wide16-requires c κs = search needs
-
-mul-due : tie.Need-mul-due
-mul-due c = search needs
-
-add-due : tie.Need-add-due
-add-due c = search needs
-
 judge5-fields-requires : tie.Need-judge5-fields-requires
 unfolding lengthAt
 judge5-fields-requires c κs = let a = c .before .before .before .before .before .args in
@@ -37,9 +22,6 @@ returns c = let a = c .before .before .before .before .before .before .args in
     let e : lengthAt (now (a .s)) (a .at) ≡ 17 + 2 * countAt (now (a .s)) (a .at) = cc in
     rw (eq-eqb _ _ e) (c .judge5-fields .ensures)
 
-refused-requires : tie.Need-refused-requires
-refused-requires c κs = search needs
-
 returns-2 : tie.Need-returns-2
 unfolding lengthAt countAt
 returns-2 c = let a = c .before .before .before .before .before .before .args in
@@ -49,14 +31,5 @@ returns-2 c = let a = c .before .before .before .before .before .before .args in
 
 pub judge5-spec : {M : Type 1} → statement M
 judge5-spec =
-    tie.close
-    (tie.spec
-    length-at-requires
-    count-at-requires
-    wide16-requires
-    mul-due
-    add-due
-    judge5-fields-requires
-    refused-requires
-    returns
-    returns-2)
+    tie.close (tie.spec (λ c κs. search needs) (λ c κs. search needs) (λ c κs. search needs) (λ c. search needs)
+    (λ c. search needs) judge5-fields-requires (λ c κs. search needs) returns returns-2)

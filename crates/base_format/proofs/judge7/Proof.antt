@@ -12,23 +12,11 @@ use borrow.Author.Needs.{needs}
 use Rattle.base_format.proofs.judge7.Statement.{statement}
 use Rattle.base_format.proofs.judge7.Tie as tie
 
-length-at-requires : tie.Need-length-at-requires
-length-at-requires c κs = search needs
-
-refused-requires : tie.Need-refused-requires
-refused-requires c κs = search needs
-
 returns : tie.Need-returns
 unfolding lengthAt
 returns c = let a = c .before .before .before .before .args in
     let short : lengthAt (now (a .s)) (a .at) < 6 = omega (arith, c .before .before .length-at .ensures) in
     rw (lt-leb 6 _ short) (c .refused .ensures)
-
-greatest-at-requires : tie.Need-greatest-at-requires
-greatest-at-requires c κs = search needs
-
-refused-requires-2 : tie.Need-refused-requires-2
-refused-requires-2 c κs = search needs
 
 returns-2 : tie.Need-returns-2
 unfolding lengthAt greatestAt
@@ -36,12 +24,6 @@ returns-2 c = let a = c .before .before .before .before .before .before .args in
     let long : 6 ≤ lengthAt (now (a .s)) (a .at) = omega (arith, c .before .before .before .before .length-at .ensures) in
     let over : 253 < greatestAt (now (a .s)) (a .x .section5) = omega (arith, c .before .before .greatest-at .ensures) in
     rw (le-leb 6 _ long, lt-leb _ 253 over) (c .refused2 .ensures)
-
-points-at-requires : tie.Need-points-at-requires
-points-at-requires c κs = search needs
-
-cast-data-at : tie.Need-cast-data-at
-cast-data-at c = search needs
 
 data-at-requires : tie.Need-data-at-requires
 unfolding lengthAt
@@ -59,9 +41,6 @@ returns-3 c = let a = c .before .before .before .before .before .before .before 
     let bins = sym (c .before .before .points-at .ensures) in
     rw (le-leb 6 _ long, le-leb _ 253 under, (λ i. gives (v i) (bins i) (dataAt s (a .at))) ∙ sym (c .before .data-at .ensures) ∙ c .if3 .taken)
 
-refused-requires-3 : tie.Need-refused-requires-3
-refused-requires-3 c κs = search needs
-
 returns-4 : tie.Need-returns-4
 unfolding lengthAt greatestAt
 returns-4 c = let a = c .before .before .before .before .before .before .before .before .before .args in
@@ -74,17 +53,6 @@ returns-4 c = let a = c .before .before .before .before .before .before .before 
 
 pub judge7-spec : {M : Type 1} → statement M
 judge7-spec =
-    tie.close
-    (tie.spec
-    length-at-requires
-    refused-requires
-    returns
-    greatest-at-requires
-    refused-requires-2
-    returns-2
-    points-at-requires
-    cast-data-at
-    data-at-requires
-    returns-3
-    refused-requires-3
-    returns-4)
+    tie.close (tie.spec (λ c κs. search needs) (λ c κs. search needs) returns (λ c κs. search needs)
+    (λ c κs. search needs) returns-2 (λ c κs. search needs) (λ c. search needs) data-at-requires returns-3
+    (λ c κs. search needs) returns-4)

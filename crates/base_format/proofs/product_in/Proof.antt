@@ -6,18 +6,10 @@ use borrow.Author.Needs.{needs}
 use Rattle.base_format.proofs.product_in.Statement.{statement}
 use Rattle.base_format.proofs.product_in.Tie as tie
 
--- src/lib.rt:141:16
-parameter-at-requires : tie.Need-parameter-at-requires
-parameter-at-requires c κs = search needs
-
--- src/lib.rt:141:5
-product-of-requires : tie.Need-product-of-requires
-product-of-requires c κs = search needs
-
 -- src/lib.rt:138:1
 returns : tie.Need-returns
 unfolding productIn parameterAt
 returns c = c .product-of .ensures ∙ ap productOf (c .before .parameter-at .ensures)
 
 pub product-in-spec : {M : Type 1} → statement M
-product-in-spec = tie.close (tie.spec parameter-at-requires product-of-requires returns)
+product-in-spec = tie.close (tie.spec (λ c κs. search needs) (λ c κs. search needs) returns)

@@ -11,24 +11,6 @@ use borrow.Author.Needs.{needs}
 use Rattle.base_format.proofs.table_at.Statement.{statement}
 use Rattle.base_format.proofs.table_at.Tie as tie
 
-add-from : tie.Need-add-from
-add-from c = search needs
-
-end-at-requires : tie.Need-end-at-requires
-end-at-requires c κs = search needs
-
-sub-table-right : tie.Need-sub-table-right
-sub-table-right c = search needs
-
-part-table-right-start : tie.Need-part-table-right-start
-part-table-right-start c = search needs
-
-part-table-right-end : tie.Need-part-table-right-end
-part-table-right-end c = search needs
-
-table-right-requires : tie.Need-table-right-requires
-table-right-requires c κs = search needs
-
 returns : tie.Need-returns
 unfolding tableAt
 returns c = let a = c .before .before .before .before .args in
@@ -39,12 +21,5 @@ returns c = let a = c .before .before .before .before .args in
 
 pub table-at-spec : {M : Type 1} → statement M
 table-at-spec =
-    tie.close
-    (tie.spec
-    add-from
-    end-at-requires
-    sub-table-right
-    part-table-right-start
-    part-table-right-end
-    table-right-requires
-    returns)
+    tie.close (tie.spec (λ c. search needs) (λ c κs. search needs) (λ c. search needs) (λ c. search needs)
+    (λ c. search needs) (λ c κs. search needs) returns)

@@ -6,15 +6,9 @@ use mathlib.Core.Path.{_∙_, ap}
 use Rattle.calls.proofs.find.Statement.{statement}
 use Rattle.calls.proofs.find.Tie as tie
 
-walk-requires : tie.Need-walk-requires
-walk-requires c κs = search needs
-
-sought-by-requires : tie.Need-sought-by-requires
-sought-by-requires c κs = search needs
-
 returns : tie.Need-returns
 returns c = let s : tie.Start = search in
     c .sought-by .ensures ∙ ap (soughtBy (s .args .i)) (c .before .walk .ensures) ∙ sought-walked (s .args .i) _
 
 pub find-spec : {M : Type 1} → statement M
-find-spec = tie.close (tie.spec walk-requires sought-by-requires returns)
+find-spec = tie.close (tie.spec (λ c κs. search needs) (λ c κs. search needs) returns)

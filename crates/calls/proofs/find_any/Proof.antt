@@ -6,15 +6,9 @@ use mathlib.Core.Path.{_∙_, ap}
 use Rattle.calls.proofs.find_any.Statement.{statement}
 use Rattle.calls.proofs.find_any.Tie as tie
 
-walk-any-requires : tie.Need-walk-any-requires
-walk-any-requires c κs = search needs
-
-sought-by-requires : tie.Need-sought-by-requires
-sought-by-requires c κs = search needs
-
 returns : tie.Need-returns
 returns c = let s : tie.Start = search in
     c .sought-by .ensures ∙ ap (soughtBy (s .args .i)) (c .before .walk-any .ensures) ∙ sought-walked (s .args .i) _
 
 pub find-any-spec : {M : Type 1} → statement M
-find-any-spec = tie.close (tie.spec walk-any-requires sought-by-requires returns)
+find-any-spec = tie.close (tie.spec (λ c κs. search needs) (λ c κs. search needs) returns)

@@ -6,15 +6,9 @@ use mathlib.Core.Path.{_∙_, ap}
 use Rattle.calls.proofs.find_dual.Statement.{statement}
 use Rattle.calls.proofs.find_dual.Tie as tie
 
-walk-dual-requires : tie.Need-walk-dual-requires
-walk-dual-requires c κs = search needs
-
-sought-by-requires : tie.Need-sought-by-requires
-sought-by-requires c κs = search needs
-
 returns : tie.Need-returns
 returns c = let s : tie.Start = search in
     c .sought-by .ensures ∙ ap (soughtBy (s .args .i)) (c .before .walk-dual .ensures) ∙ sought-walked (s .args .i) _
 
 pub find-dual-spec : {M : Type 1} → statement M
-find-dual-spec = tie.close (tie.spec walk-dual-requires sought-by-requires returns)
+find-dual-spec = tie.close (tie.spec (λ c κs. search needs) (λ c κs. search needs) returns)

@@ -7,18 +7,9 @@ use mathlib.Core.Path.{sym, _∙_, ap}
 use Rattle.calls.proofs.sought_by.Statement.{statement}
 use Rattle.calls.proofs.sought_by.Tie as tie
 
-enum-known-walked : tie.Need-enum-known-walked
-enum-known-walked c = search needs
-
 returns : tie.Need-returns
 returns c = let f : tie.After-walked = search in
     rw (f .walked .given .1, lt-ltb _ _ (c .if1 .taken))
-
-refuse-requires : tie.Need-refuse-requires
-refuse-requires c κs = search needs
-
-enum-known-walked-2 : tie.Need-enum-known-walked-2
-enum-known-walked-2 c = search needs
 
 returns-2 : tie.Need-returns-2
 returns-2 c = let f : tie.After-walked = search in
@@ -29,5 +20,5 @@ returns-3 c = rw (c .before .walked2 .given .1)
 
 pub sought-by-spec : {M : Type 1} → statement M
 sought-by-spec =
-    tie.close
-    (tie.spec enum-known-walked returns refuse-requires enum-known-walked-2 returns-2 returns-3)
+    tie.close (tie.spec (λ c. search needs) returns (λ c κs. search needs) (λ c. search needs) returns-2
+    returns-3)

@@ -10,21 +10,6 @@ use borrow.Author.Needs.{needs}
 use Rattle.cuts.proofs.data_in.Statement.{statement}
 use Rattle.cuts.proofs.data_in.Tie as tie
 
-add-from : tie.Need-add-from
-add-from c = search needs
-
-end-at-requires : tie.Need-end-at-requires
-end-at-requires c κs = search needs
-
-sub-result : tie.Need-sub-result
-sub-result c = search needs
-
-part-result-start : tie.Need-part-result-start
-part-result-start c = search needs
-
-part-result-end : tie.Need-part-result-end
-part-result-end c = search needs
-
 returns : tie.Need-returns
 unfolding dataAt
 returns c = let a = c .before .before .before .args in
@@ -36,5 +21,5 @@ returns c = let a = c .before .before .before .args in
 
 pub data-in-spec : {M : Type 1} → statement M
 data-in-spec =
-    tie.close
-    (tie.spec add-from end-at-requires sub-result part-result-start part-result-end returns)
+    tie.close (tie.spec (λ c. search needs) (λ c κs. search needs) (λ c. search needs) (λ c. search needs)
+    (λ c. search needs) returns)

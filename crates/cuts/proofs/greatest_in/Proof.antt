@@ -7,9 +7,6 @@ use borrow.Author.Needs.{needs}
 use Rattle.cuts.proofs.greatest_in.Statement.{statement}
 use Rattle.cuts.proofs.greatest_in.Tie as tie
 
-greatest-at-requires : tie.Need-greatest-at-requires
-greatest-at-requires c κs = search needs
-
 cast-result : tie.Need-cast-result
 unfolding greatestIn greatestAt
 cast-result c = let small = greatest-small _ _ (c .before .before .pre) in record { fits = omega (arith, c .greatest-at .ensures, small) }
@@ -19,4 +16,4 @@ unfolding greatestIn greatestAt
 returns c = c .greatest-at .ensures
 
 pub greatest-in-spec : {M : Type 1} → statement M
-greatest-in-spec = tie.close (tie.spec greatest-at-requires cast-result returns)
+greatest-in-spec = tie.close (tie.spec (λ c κs. search needs) cast-result returns)

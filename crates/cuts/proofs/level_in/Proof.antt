@@ -9,9 +9,6 @@ use Rattle.cuts.proofs.Places.{few-bins, bin-inside, level-asks, level-
 use Rattle.cuts.proofs.level_in.Statement.{statement}
 use Rattle.cuts.proofs.level_in.Tie as tie
 
-bins-in-requires : tie.Need-bins-in-requires
-bins-in-requires c κs = search needs
-
 mul-at : tie.Need-mul-at
 mul-at c = let a = c .before .before .args in
     let s = now (a .file) in
@@ -28,12 +25,6 @@ add-at c = let a = c .before .before .args in
     let same = ap (λ (k : ℕ). a .ray * k) (c .bins-in .ensures) in
     record { fits = omega arith }
 
-greatest-in-requires : tie.Need-greatest-in-requires
-greatest-in-requires c κs = search needs
-
-data-in-requires : tie.Need-data-in-requires
-data-in-requires c κs = search needs
-
 level-at-requires : tie.Need-level-at-requires
 level-at-requires c κs = let s = c .before .before .before .before in
     level-asks (now (s .args .file)) (s .args .c) (s .pre .0) _ _ (c .before .greatest-in .ensures) (c .data-in .ensures) _ (s .args .ray) (c .before .before .bins-in .ensures) (s .pre .1 .0) (s .args .bin) (s .pre .1 .1)
@@ -45,12 +36,5 @@ returns c = let s = c .before .before .before .before .before in
 
 pub level-in-spec : {M : Type 1} → statement M
 level-in-spec =
-    tie.close
-    (tie.spec
-    bins-in-requires
-    mul-at
-    add-at
-    greatest-in-requires
-    data-in-requires
-    level-at-requires
-    returns)
+    tie.close (tie.spec (λ c κs. search needs) mul-at add-at (λ c κs. search needs) (λ c κs. search needs)
+    level-at-requires returns)

@@ -12,23 +12,11 @@ use borrow.Author.Needs.{needs}
 use Rattle.cuts.proofs.levels_from.Statement.{statement}
 use Rattle.cuts.proofs.levels_from.Tie as tie
 
-bins-in-requires : tie.Need-bins-in-requires
-bins-in-requires c κs = search needs
-
-greatest-in-requires : tie.Need-greatest-in-requires
-greatest-in-requires c κs = search needs
-
-data-in-requires : tie.Need-data-in-requires
-data-in-requires c κs = search needs
-
 levels-from-requires : tie.Need-levels-from-requires
 levels-from-requires c κs = let s = c .before .before .before .before .before .before in
     let v = c .before .before .greatest-in .ensures in
     let nb = c .before .before .before .bins-in .ensures in
     (omega (arith, v, greatest-small _ _ (s .pre .0)), omega (arith, nb, s .pre .0 .bins-few), omega (arith, nb, s .pre .1))
-
-same-length : tie.Need-same-length
-same-length c = search needs
 
 returns : tie.Need-returns
 returns c = let s = c .before .before .before .before .before .before .before .before .before in
@@ -43,11 +31,5 @@ returns c = let s = c .before .before .before .before .before .before .before .b
 
 pub levels-from-spec : {M : Type 1} → statement M
 levels-from-spec =
-    tie.close
-    (tie.spec
-    bins-in-requires
-    greatest-in-requires
-    data-in-requires
-    levels-from-requires
-    same-length
-    returns)
+    tie.close (tie.spec (λ c κs. search needs) (λ c κs. search needs) (λ c κs. search needs)
+    levels-from-requires (λ c. search needs) returns)

@@ -10,26 +10,8 @@ use borrow.Author.Needs.{needs}
 use Rattle.cuts.proofs.list_into.Statement.{statement}
 use Rattle.cuts.proofs.list_into.Tie as tie
 
-rays-in-requires : tie.Need-rays-in-requires
-rays-in-requires c κs = search needs
-
-bins-in-requires : tie.Need-bins-in-requires
-bins-in-requires c κs = search needs
-
-product-in-requires : tie.Need-product-in-requires
-product-in-requires c κs = search needs
-
-greatest-in-requires : tie.Need-greatest-in-requires
-greatest-in-requires c κs = search needs
-
-data-in-requires : tie.Need-data-in-requires
-data-in-requires c κs = search needs
-
 list-from-requires : tie.Need-list-from-requires
 list-from-requires c κs = list-asks _ _ (c .before .before .before .before .before .before .before .before .pre .0) _ _ (c .before .before .greatest-in .ensures) (c .before .data-in .ensures) _ _ _ (c .before .before .before .before .bins-in .ensures) (c .before .before .before .before .before .rays-in .ensures) (c .before .before .before .product-in .ensures) _ _ (c .before .before .before .before .before .before .before .before .pre .1)
-
-same-length : tie.Need-same-length
-same-length c = search needs
 
 returns : tie.Need-returns
 returns c = let a = c .before .before .before .before .before .before .before .before .before .before .before .args in
@@ -40,13 +22,5 @@ returns c = let a = c .before .before .before .before .before .before .before .b
 
 pub list-into-spec : {M : Type 1} → statement M
 list-into-spec =
-    tie.close
-    (tie.spec
-    rays-in-requires
-    bins-in-requires
-    product-in-requires
-    greatest-in-requires
-    data-in-requires
-    list-from-requires
-    same-length
-    returns)
+    tie.close (tie.spec (λ c κs. search needs) (λ c κs. search needs) (λ c κs. search needs)
+    (λ c κs. search needs) (λ c κs. search needs) list-from-requires (λ c. search needs) returns)

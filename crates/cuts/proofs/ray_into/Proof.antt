@@ -11,9 +11,6 @@ use borrow.Author.Needs.{needs}
 use Rattle.cuts.proofs.ray_into.Statement.{statement}
 use Rattle.cuts.proofs.ray_into.Tie as tie
 
-bins-in-requires : tie.Need-bins-in-requires
-bins-in-requires c κs = search needs
-
 mul-bins-into : tie.Need-mul-bins-into
 mul-bins-into c = let a = c .before .before .before .args in
     let s = now (a .file) in
@@ -30,9 +27,6 @@ bins-into-requires c κs = let a = c .before .before .before .before .args in
     let same = ap (λ (k : ℕ). a .ray * k) nb in
     (c .before .before .before .before .pre .0, (omega arith, omega (arith, c .before .before .before .before .pre .1 .1)))
 
-same-length : tie.Need-same-length
-same-length c = search needs
-
 returns : tie.Need-returns
 unfolding rayIn
 returns c = let a = c .before .before .before .before .before .before .before .args in
@@ -42,4 +36,4 @@ returns c = let a = c .before .before .before .before .before .before .before .a
 
 pub ray-into-spec : {M : Type 1} → statement M
 ray-into-spec =
-    tie.close (tie.spec bins-in-requires mul-bins-into bins-into-requires same-length returns)
+    tie.close (tie.spec (λ c κs. search needs) mul-bins-into bins-into-requires (λ c. search needs) returns)

@@ -24,33 +24,15 @@ inside : (c : tie.After-struct-known2) → let s = c .before .before .before .be
 inside c = let s = c .before .before .before .before .before .before in
     offset-inside (s .args .product) (s .args .v) (s .args .nb) (s .args .octets .now) (s .args .rec) (s .pre .0) (s .pre .1) (omega arith) (yes (c .before .before))
 
-cast-at : tie.Need-cast-at
-cast-at c = search needs
-
-cast-before : tie.Need-cast-before
-cast-before c = search needs
-
 sub-readings-from : tie.Need-sub-readings-from
 sub-readings-from c = inside c
 
 part-readings-from-start : tie.Need-part-readings-from-start
 part-readings-from-start c = inside c
 
-part-readings-from-end : tie.Need-part-readings-from-end
-part-readings-from-end c = search needs
-
-add-readings-from : tie.Need-add-readings-from
-add-readings-from c = search needs
-
 readings-from-requires : tie.Need-readings-from-requires
 readings-from-requires c κs = let s = c .before .before .before .before .before .before .before .before .before in
     from-asks (s .args .product) (s .args .v) (s .args .nb) (s .args .octets .now) (s .args .rec) (s .pre .0) (s .pre .1) (omega arith) (yes (c .before .before .before .before .before)) _ _ (s .pre .2) (s .pre .3)
-
-same-length : tie.Need-same-length
-same-length c = search needs
-
-same-length-2 : tie.Need-same-length-2
-same-length-2 c = search needs
 
 returns : tie.Need-returns
 returns c = let s = c .before .before .before .before .before .before .before .before .before .before .before .before .before in
@@ -66,17 +48,6 @@ returns-2 c = (sym (sym (c .before .fits2 .ensures) ∙ c .if1 .left), (refl, re
 
 pub readings-by-spec : {M : Type 1} → statement M
 readings-by-spec =
-    tie.close
-    (tie.spec
-    fits-requires
-    cast-at
-    cast-before
-    sub-readings-from
-    part-readings-from-start
-    part-readings-from-end
-    add-readings-from
-    readings-from-requires
-    same-length
-    same-length-2
-    returns
-    returns-2)
+    tie.close (tie.spec fits-requires (λ c. search needs) (λ c. search needs) sub-readings-from
+    part-readings-from-start (λ c. search needs) (λ c. search needs) readings-from-requires (λ c. search needs)
+    (λ c. search needs) returns returns-2)

@@ -12,30 +12,12 @@ use borrow.Author.Needs.{needs}
 use Rattle.cuts.proofs.readings_from.Statement.{statement}
 use Rattle.cuts.proofs.readings_from.Tie as tie
 
-bins-in-requires : tie.Need-bins-in-requires
-bins-in-requires c κs = search needs
-
-greatest-in-requires : tie.Need-greatest-in-requires
-greatest-in-requires c κs = search needs
-
-product-in-requires : tie.Need-product-in-requires
-product-in-requires c κs = search needs
-
-data-in-requires : tie.Need-data-in-requires
-data-in-requires c κs = search needs
-
 readings-by-requires : tie.Need-readings-by-requires
 readings-by-requires c κs = let s = c .before .before .before .before .before .before .before .before in
     let v = c .before .before .before .before .greatest-in .ensures in
     let nb = c .before .before .before .before .before .bins-in .ensures in
     let p = c .before .before .before .product-in .ensures in
     (omega (arith, v, ap levelCount p, s .pre .0 .greatest-few), omega (arith, nb, s .pre .0 .bins-few), omega (arith, nb, s .pre .1 .0), omega (arith, nb, s .pre .1 .1))
-
-same-length : tie.Need-same-length
-same-length c = search needs
-
-same-length-2 : tie.Need-same-length-2
-same-length-2 c = search needs
 
 returns : tie.Need-returns
 returns c = let s = c .before .before .before .before .before .before .before .before .before .before .before .before in
@@ -55,13 +37,5 @@ returns c = let s = c .before .before .before .before .before .before .before .b
 
 pub readings-from-spec : {M : Type 1} → statement M
 readings-from-spec =
-    tie.close
-    (tie.spec
-    bins-in-requires
-    greatest-in-requires
-    product-in-requires
-    data-in-requires
-    readings-by-requires
-    same-length
-    same-length-2
-    returns)
+    tie.close (tie.spec (λ c κs. search needs) (λ c κs. search needs) (λ c κs. search needs)
+    (λ c κs. search needs) readings-by-requires (λ c. search needs) (λ c. search needs) returns)

@@ -10,9 +10,6 @@ use Rattle.cuts.proofs.Places.{few-bins, ray-inside, readings-ask, ray-
 use Rattle.cuts.proofs.readings_into.Statement.{statement}
 use Rattle.cuts.proofs.readings_into.Tie as tie
 
-bins-in-requires : tie.Need-bins-in-requires
-bins-in-requires c κs = search needs
-
 mul-from : tie.Need-mul-from
 mul-from c = let a = c .before .before .before .args in
     let s = now (a .file) in
@@ -20,15 +17,6 @@ mul-from c = let a = c .before .before .before .args in
     let few = few-bins s (a .c) (c .before .before .before .pre .0) in
     let same = ap (λ (k : ℕ). a .ray * k) (c .bins-in .ensures) in
     record { fits = omega arith }
-
-greatest-in-requires : tie.Need-greatest-in-requires
-greatest-in-requires c κs = search needs
-
-product-in-requires : tie.Need-product-in-requires
-product-in-requires c κs = search needs
-
-data-in-requires : tie.Need-data-in-requires
-data-in-requires c κs = search needs
 
 add-readings-into : tie.Need-add-readings-into
 add-readings-into c = let a = c .before .before .before .before .before .before .args in
@@ -42,12 +30,6 @@ readings-into-requires : tie.Need-readings-into-requires
 readings-into-requires c κs = let s = c .before .before .before .before .before .before .before .before in
     readings-ask (now (s .args .file)) (s .args .c) (s .pre .0) _ _ (c .before .before .before .before .greatest-in .ensures) (c .before .before .data-in .ensures) _ (s .args .ray) (c .before .before .before .before .before .bins-in .ensures) (s .pre .1 .0) _ (c .before .before .before .product-in .ensures) _ _ (s .pre .1 .1) (s .pre .1 .2)
 
-same-length : tie.Need-same-length
-same-length c = search needs
-
-same-length-2 : tie.Need-same-length-2
-same-length-2 c = search needs
-
 returns : tie.Need-returns
 returns c = let s = c .before .before .before .before .before .before .before .before .before .before .before .before in
     let product = c .before .before .before .before .before .before .before .product-in .ensures in
@@ -56,15 +38,6 @@ returns c = let s = c .before .before .before .before .before .before .before .b
 
 pub readings-into-spec : {M : Type 1} → statement M
 readings-into-spec =
-    tie.close
-    (tie.spec
-    bins-in-requires
-    mul-from
-    greatest-in-requires
-    product-in-requires
-    data-in-requires
-    add-readings-into
-    readings-into-requires
-    same-length
-    same-length-2
+    tie.close (tie.spec (λ c κs. search needs) mul-from (λ c κs. search needs) (λ c κs. search needs)
+    (λ c κs. search needs) add-readings-into readings-into-requires (λ c. search needs) (λ c. search needs)
     returns)

@@ -8,15 +8,6 @@ use Rattle.rules.proofs.Chains.{both, flat}
 use Rattle.dual_format.proofs.fields5.Statement.{statement}
 use Rattle.dual_format.proofs.fields5.Tie as tie
 
-within16-requires : tie.Need-within16-requires
-within16-requires c κs = search needs
-
-within16-requires-2 : tie.Need-within16-requires-2
-within16-requires-2 c κs = search needs
-
-within16-requires-3 : tie.Need-within16-requires-3
-within16-requires-3 c κs = search needs
-
 returns : tie.Need-returns
 unfolding rules5
 returns c =
@@ -27,10 +18,4 @@ returns c =
     ∙ flat true (now (a .s)) (a .at) rules5
 
 pub fields5-spec : {M : Type 1} → statement M
-fields5-spec =
-    tie.close
-    (tie.spec
-    within16-requires
-    within16-requires-2
-    within16-requires-3
-    returns)
+fields5-spec = tie.close (tie.spec (λ c κs. search needs) (λ c κs. search needs) (λ c κs. search needs) returns)

@@ -5,24 +5,15 @@ use borrow.Author.Needs.{needs}
 use Rattle.dual_format.proofs.judge.Statement.{statement}
 use Rattle.dual_format.proofs.judge.Tie as tie
 
-judge3-requires : tie.Need-judge3-requires
-judge3-requires c κs = search needs
-
 returns : tie.Need-returns
 unfolding dualChecks
 returns c = let n = c .before .before .before .args .n in
     rw (eq-eqb n 3 (c .before .if1 .taken)) (c .judge3 .ensures)
 
-judge4-requires : tie.Need-judge4-requires
-judge4-requires c κs = search needs
-
 returns-2 : tie.Need-returns-2
 unfolding dualChecks
 returns-2 c = let n = c .before .before .before .before .args .n in
     rw (ne-eqb n 3 (c .before .before .if1 .left), eq-eqb n 4 (c .before .if2 .taken)) (c .judge4 .ensures)
-
-judge5-requires : tie.Need-judge5-requires
-judge5-requires c κs = search needs
 
 returns-3 : tie.Need-returns-3
 unfolding dualChecks
@@ -36,12 +27,5 @@ returns-4 c = let n = c .before .before .before .before .args .n in
 
 pub judge-spec : {M : Type 1} → statement M
 judge-spec =
-    tie.close
-    (tie.spec
-    judge3-requires
-    returns
-    judge4-requires
-    returns-2
-    judge5-requires
-    returns-3
-    returns-4)
+    tie.close (tie.spec (λ c κs. search needs) returns (λ c κs. search needs) returns-2 (λ c κs. search needs)
+    returns-3 returns-4)

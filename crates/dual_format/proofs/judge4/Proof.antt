@@ -5,48 +5,12 @@ use borrow.Author.Needs.{needs}
 use Rattle.dual_format.proofs.judge4.Statement.{statement}
 use Rattle.dual_format.proofs.judge4.Tie as tie
 
-length-at-requires : tie.Need-length-at-requires
-length-at-requires c κs = search needs
-
-wide-requires : tie.Need-wide-requires
-wide-requires c κs = search needs
-
-with-lists-requires : tie.Need-with-lists-requires
-with-lists-requires c κs = search needs
-
-parameter-at-requires : tie.Need-parameter-at-requires
-parameter-at-requires c κs = search needs
-
-site-at-requires : tie.Need-site-at-requires
-site-at-requires c κs = search needs
-
-fields4-requires : tie.Need-fields4-requires
-fields4-requires c κs = search needs
-
-accepted-requires : tie.Need-accepted-requires
-accepted-requires c κs = search needs
-
-check-requires : tie.Need-check-requires
-check-requires c κs = search needs
-
-check-requires-2 : tie.Need-check-requires-2
-check-requires-2 c κs = search needs
-
 returns : tie.Need-returns
 unfolding lengthAt parameterAt siteAt
 returns c = rw (c .check2 .ensures, c .before .check .ensures, c .before .before .accepted .ensures, c .before .before .before .fields4 .ensures, c .before .before .before .before .site-at .ensures, c .before .before .before .before .before .parameter-at .ensures, c .before .before .before .before .before .before .with-lists .ensures, c .before .before .before .before .before .before .before .wide .ensures, c .before .before .before .before .before .before .before .before .length-at .ensures)
 
 pub judge4-spec : {M : Type 1} → statement M
 judge4-spec =
-    tie.close
-    (tie.spec
-    length-at-requires
-    wide-requires
-    with-lists-requires
-    parameter-at-requires
-    site-at-requires
-    fields4-requires
-    accepted-requires
-    check-requires
-    check-requires-2
-    returns)
+    tie.close (tie.spec (λ c κs. search needs) (λ c κs. search needs) (λ c κs. search needs)
+    (λ c κs. search needs) (λ c κs. search needs) (λ c κs. search needs) (λ c κs. search needs)
+    (λ c κs. search needs) (λ c κs. search needs) returns)

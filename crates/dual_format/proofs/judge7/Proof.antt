@@ -4,32 +4,11 @@ use borrow.Author.Needs.{needs}
 use Rattle.dual_format.proofs.judge7.Statement.{statement}
 use Rattle.dual_format.proofs.judge7.Tie as tie
 
-length-at-requires : tie.Need-length-at-requires
-length-at-requires c κs = search needs
-
-wide-requires : tie.Need-wide-requires
-wide-requires c κs = search needs
-
-length7-at-requires : tie.Need-length7-at-requires
-length7-at-requires c κs = search needs
-
-accepted-requires : tie.Need-accepted-requires
-accepted-requires c κs = search needs
-
-check-requires : tie.Need-check-requires
-check-requires c κs = search needs
-
 returns : tie.Need-returns
 unfolding lengthAt
 returns c = cc
 
 pub judge7-spec : {M : Type 1} → statement M
 judge7-spec =
-    tie.close
-    (tie.spec
-    length-at-requires
-    wide-requires
-    length7-at-requires
-    accepted-requires
-    check-requires
-    returns)
+    tie.close (tie.spec (λ c κs. search needs) (λ c κs. search needs) (λ c κs. search needs)
+    (λ c κs. search needs) (λ c κs. search needs) returns)

@@ -8,12 +8,6 @@ use Rattle.rules.proofs.Chains.{both, flat}
 use Rattle.dual_format.proofs.scan_fields.Statement.{statement}
 use Rattle.dual_format.proofs.scan_fields.Tie as tie
 
-within8-requires : tie.Need-within8-requires
-within8-requires c κs = search needs
-
-within8-requires-2 : tie.Need-within8-requires-2
-within8-requires-2 c κs = search needs
-
 returns : tie.Need-returns
 unfolding scanRules
 returns c =
@@ -23,9 +17,4 @@ returns c =
     ∙ flat true (now (a .s)) (a .at) scanRules
 
 pub scan-fields-spec : {M : Type 1} → statement M
-scan-fields-spec =
-    tie.close
-    (tie.spec
-    within8-requires
-    within8-requires-2
-    returns)
+scan-fields-spec = tie.close (tie.spec (λ c κs. search needs) (λ c κs. search needs) returns)

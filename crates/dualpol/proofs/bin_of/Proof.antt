@@ -4,12 +4,6 @@ use borrow.Author.Needs.{needs}
 use Rattle.dualpol.proofs.bin_of.Statement.{statement}
 use Rattle.dualpol.proofs.bin_of.Tie as tie
 
-enum-told : tie.Need-enum-told
-enum-told c = search needs
-
-enum-known-cell : tie.Need-enum-known-cell
-enum-known-cell c = search needs
-
 returns : tie.Need-returns
 unfolding binOf
 returns c = rw (c .enum-told .given .1)
@@ -19,4 +13,4 @@ unfolding binOf
 returns-2 c = rw (c .before .cell .given .1)
 
 pub bin-of-spec : {M : Type 1} → statement M
-bin-of-spec = tie.close (tie.spec enum-told enum-known-cell returns returns-2)
+bin-of-spec = tie.close (tie.spec (λ c. search needs) (λ c. search needs) returns returns-2)

@@ -30,11 +30,5 @@ returns-2 c = record { near = tt; answer = sym (on-refused _ _ _ _ _ (sym (c .be
 
 pub bin-value-spec : {M : Type 1} → statement M
 bin-value-spec =
-    tie.close
-    (tie.spec
-    (λ c κs. search needs)
-    (λ c. search needs)
-    bin-value-on-requires
-    (λ c. search needs)
-    returns
-    returns-2)
+    tie.close (tie.spec (λ c κs. search needs) (λ c. search needs) bin-value-on-requires (λ c. search needs)
+    returns returns-2)

@@ -9,12 +9,6 @@ use borrow.Author.Needs.{needs}
 use Rattle.dualpol.proofs.bin_value_on.Statement.{statement}
 use Rattle.dualpol.proofs.bin_value_on.Tie as tie
 
-rays-in-requires : tie.Need-rays-in-requires
-rays-in-requires c κs = search needs
-
-bins-in-requires : tie.Need-bins-in-requires
-bins-in-requires c κs = search needs
-
 returns : tie.Need-returns
 unfolding refuse
 returns c = let a = c .before .before .before .before .args in (no-ray (now (a .file)) (a .c) (a .ray) (a .bin) (omega (arith, c .before .before .rays-in .ensures)), tt)
@@ -22,12 +16,6 @@ returns c = let a = c .before .before .before .before .args in (no-ray (now (a .
 returns-2 : tie.Need-returns-2
 unfolding refuse
 returns-2 c = let a = c .before .before .before .before .before .args in (no-bin (now (a .file)) (a .c) (a .ray) (a .bin) (omega (arith, c .before .before .bins-in .ensures)), tt)
-
-told-in-requires : tie.Need-told-in-requires
-told-in-requires c κs = search needs
-
-bin-of-requires : tie.Need-bin-of-requires
-bin-of-requires c κs = search needs
 
 returns-3 : tie.Need-returns-3
 returns-3 c = let a = c .before .before .before .before .before .before .before .args in
@@ -38,12 +26,5 @@ returns-3 c = let a = c .before .before .before .before .before .before .before 
 
 pub bin-value-on-spec : {M : Type 1} → statement M
 bin-value-on-spec =
-    tie.close
-    (tie.spec
-    rays-in-requires
-    bins-in-requires
-    returns
-    returns-2
-    told-in-requires
-    bin-of-requires
-    returns-3)
+    tie.close (tie.spec (λ c κs. search needs) (λ c κs. search needs) returns returns-2 (λ c κs. search needs)
+    (λ c κs. search needs) returns-3)

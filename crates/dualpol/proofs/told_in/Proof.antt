@@ -11,21 +11,6 @@ use borrow.Author.Needs.{needs}
 use Rattle.dualpol.proofs.told_in.Statement.{statement}
 use Rattle.dualpol.proofs.told_in.Tie as tie
 
-reference-at-requires : tie.Need-reference-at-requires
-reference-at-requires c κs = search needs
-
-binary-at-requires : tie.Need-binary-at-requires
-binary-at-requires c κs = search needs
-
-decimal-at-requires : tie.Need-decimal-at-requires
-decimal-at-requires c κs = search needs
-
-width-at-requires : tie.Need-width-at-requires
-width-at-requires c κs = search needs
-
-bins-in-requires : tie.Need-bins-in-requires
-bins-in-requires c κs = search needs
-
 mul-n : tie.Need-mul-n
 mul-n c = record { fits = omega (arith, few-cells (c .before .before .before .before .before .before .args .ray) (c .before .before .before .before .before .before .args .bin) (raysIn (now (c .before .before .before .before .before .before .args .file)) (c .before .before .before .before .before .before .args .c)) (c .bins-in .result) (c .before .before .before .before .before .before .pre .1) (omega (arith, c .bins-in .ensures, c .before .before .before .before .before .before .pre .2)) (c .before .before .before .before .before .before .pre .0 .rays-few) (omega (arith, c .bins-in .ensures, c .before .before .before .before .before .before .pre .0 .bins-few))) }
 
@@ -50,15 +35,5 @@ returns c =
 
 pub told-in-spec : {M : Type 1} → statement M
 told-in-spec =
-    tie.close
-    (tie.spec
-    reference-at-requires
-    binary-at-requires
-    decimal-at-requires
-    width-at-requires
-    bins-in-requires
-    mul-n
-    add-n
-    cell-at-requires
-    cell-of-requires
-    returns)
+    tie.close (tie.spec (λ c κs. search needs) (λ c κs. search needs) (λ c κs. search needs)
+    (λ c κs. search needs) (λ c κs. search needs) mul-n add-n cell-at-requires cell-of-requires returns)

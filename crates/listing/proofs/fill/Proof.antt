@@ -8,13 +8,10 @@ use Rattle.listing.proofs.fill.Tie as tie
 list-into-requires : tie.Need-list-into-requires
 list-into-requires c κs = let s = c .before .before .before .before in (good-on (s .args .file .now) (s .args .t) (s .pre .0), s .pre .0 .point)
 
-same-length : tie.Need-same-length
-same-length c = search needs
-
 returns : tie.Need-returns
 returns c = let s = c .before .before .before .before .before .before .before in
     let l = c .before .before .list-into in
     (to-show (s .args .file .now) (s .args .t) (s .args .words .now) (l .result) (l .last .1 .1 .1 .1 .1 .0) (s .pre .0) (s .pre .1) (l .ensures .0) (l .ensures .1), refl)
 
 pub fill-spec : {M : Type 1} → statement M
-fill-spec = tie.close (tie.spec list-into-requires same-length returns)
+fill-spec = tie.close (tie.spec list-into-requires (λ c. search needs) returns)

@@ -12,12 +12,6 @@ use Rattle.listing.proofs.Progress.{the-type}
 use Rattle.listing.proofs.is_finished.Statement.{statement}
 use Rattle.listing.proofs.is_finished.Tie as tie
 
-enum-told : tie.Need-enum-told
-enum-told c = search needs
-
-returns : tie.Need-returns
-returns c = search needs
-
 before-last : (p : Progress)
     → (tagOf the-type p ≡ 0) ⊎ ((tagOf the-type p ≡ 1) ⊎ ((tagOf the-type p ≡ 2) ⊎ ((tagOf the-type p ≡ 3) ⊎ (tagOf the-type p ≡ 4))))
     → false ≡ finished p
@@ -33,4 +27,4 @@ returns-2 : tie.Need-returns-2
 returns-2 c = before-last (c .before .args .p) (c .match .keys2)
 
 pub is-finished-spec : {M : Type 1} → statement M
-is-finished-spec = tie.close (tie.spec enum-told returns returns-2)
+is-finished-spec = tie.close (tie.spec (λ c. search needs) (λ c. search needs) returns-2)

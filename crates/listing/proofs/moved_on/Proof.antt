@@ -8,20 +8,8 @@ use Rattle.listing.proofs.moved_on.Tie as tie
 add-total : tie.Need-add-total
 add-total c = let s = c .before .before .before .before in record { fits = omega (arith, sum-few (s .args .file .now) (s .args .t) (s .args .l) (s .pre)) }
 
-rays-in-requires : tie.Need-rays-in-requires
-rays-in-requires c κs = search needs
-
 returns : tie.Need-returns
 returns c = let s = c .before .before .before .before .before .before .before in to-fill (s .args .file .now) (s .args .t) (s .args .l) (s .pre) (rw (← c .before .before .rays-in .ensures) (c .if1 .taken))
-
-add-number : tie.Need-add-number
-add-number c = search needs
-
-next-cut-requires : tie.Need-next-cut-requires
-next-cut-requires c κs = search needs
-
-cut-begun-requires : tie.Need-cut-begun-requires
-cut-begun-requires c κs = search needs
 
 returns-2 : tie.Need-returns-2
 returns-2 c = let s = c .before .before .before .before .before .before .before .before .before .before .before .before in
@@ -33,13 +21,5 @@ returns-3 c = let s = c .before .before .before .before .before .before .before 
 
 pub moved-on-spec : {M : Type 1} → statement M
 moved-on-spec =
-    tie.close
-    (tie.spec
-    add-total
-    rays-in-requires
-    returns
-    add-number
-    next-cut-requires
-    cut-begun-requires
-    returns-2
-    returns-3)
+    tie.close (tie.spec add-total (λ c κs. search needs) returns (λ c. search needs) (λ c κs. search needs)
+    (λ c κs. search needs) returns-2 returns-3)

@@ -20,9 +20,6 @@ sub-last c = omega (arith, c .before .before .before .pre .1 .1)
 loop-holds : tie.Need-loop-holds Inv-loop μ-loop
 loop-holds c = (no-page (c .before .before .before .args .file .now) (c .before .before .before .args .words .now) (c .before .before .before .args .text .now) (c .before .before .before .args .p) (c .before .before .before .pre .0), refl)
 
-is-finished-requires : tie.Need-is-finished-requires Inv-loop μ-loop
-is-finished-requires c κs = search needs
-
 step-requires : tie.Need-step-requires Inv-loop μ-loop
 step-requires c κs = let s = c .before .before .before .before .before .before .before .before .before in
     let l = c .before .before .before .before .before .loop in
@@ -58,19 +55,5 @@ returns-2 c = let x = c .before .before .before .loop .inv .0 in
 
 pub page-spec : {M : Type 1} → statement M
 page-spec =
-    tie.close
-    (tie.spec
-    Inv-loop
-    μ-loop
-    sub-last
-    loop-holds
-    is-finished-requires
-    step-requires
-    loop-less
-    loop-again
-    same-length
-    same-length-2
-    returns
-    same-length-3
-    same-length-4
-    returns-2)
+    tie.close (tie.spec Inv-loop μ-loop sub-last loop-holds (λ c κs. search needs) step-requires loop-less
+    loop-again same-length same-length-2 returns same-length-3 same-length-4 returns-2)

@@ -9,30 +9,6 @@ use Rattle.listing.proofs.put_first_line.Statement.{statement}
 use Rattle.listing.proofs.put_first_line.Tie as tie
 use Rattle.stretches.specs.Call.{houseThreshold}
 
-product-in-requires : tie.Need-product-in-requires
-product-in-requires c κs = search needs
-
-product-number-requires : tie.Need-product-number-requires
-product-number-requires c κs = search needs
-
-cast-product : tie.Need-cast-product
-cast-product c = search needs
-
-bins-in-requires : tie.Need-bins-in-requires
-bins-in-requires c κs = search needs
-
-rays-in-requires : tie.Need-rays-in-requires
-rays-in-requires c κs = search needs
-
-cast-put-head : tie.Need-cast-put-head
-cast-put-head c = search needs
-
-put-head-requires : tie.Need-put-head-requires
-put-head-requires c κs = search needs
-
-same-length : tie.Need-same-length
-same-length c = search needs
-
 returns : tie.Need-returns
 unfolding headOf
 returns c =
@@ -46,14 +22,5 @@ returns c =
 
 pub put-first-line-spec : {M : Type 1} → statement M
 put-first-line-spec =
-    tie.close
-    (tie.spec
-    product-in-requires
-    product-number-requires
-    cast-product
-    bins-in-requires
-    rays-in-requires
-    cast-put-head
-    put-head-requires
-    same-length
-    returns)
+    tie.close (tie.spec (λ c κs. search needs) (λ c κs. search needs) (λ c. search needs) (λ c κs. search needs)
+    (λ c κs. search needs) (λ c. search needs) (λ c κs. search needs) (λ c. search needs) returns)

@@ -11,18 +11,6 @@ returns : tie.Need-returns
 unfolding Sound
 returns c = (too-long (c .before .before .args .file .now) (c .if1 .taken), λ ws. tt)
 
-walk-requires : tie.Need-walk-requires
-walk-requires c κs = search needs
-
-enum-known-f : tie.Need-enum-known-f
-enum-known-f c = search needs
-
-cut-begun-requires : tie.Need-cut-begun-requires
-cut-begun-requires c κs = search needs
-
-enum-known-refusal : tie.Need-enum-known-refusal
-enum-known-refusal c = search needs
-
 returns-2 : tie.Need-returns-2
 returns-2 c = head-first (c .before .before .before .before .before .before .before .before .args .file .now) (c .before .before .before .f .given .0 .0) (c .cut-begun .result) (c .cut-begun .ensures) (omega arith) (sym (c .before .before .before .before .before .walk .ensures) ∙ c .before .before .before .f .given .1)
 
@@ -32,12 +20,5 @@ returns-3 c = (refused-first (c .before .before .before .before .before .before 
 
 pub start-spec : {M : Type 1} → statement M
 start-spec =
-    tie.close
-    (tie.spec
-    returns
-    walk-requires
-    enum-known-f
-    cut-begun-requires
-    enum-known-refusal
-    returns-2
-    returns-3)
+    tie.close (tie.spec returns (λ c κs. search needs) (λ c. search needs) (λ c κs. search needs)
+    (λ c. search needs) returns-2 returns-3)

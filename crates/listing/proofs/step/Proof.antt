@@ -7,46 +7,13 @@ use Rattle.listing.proofs.Going.{goes-refused, goes-end, goes-head, goe
 use Rattle.listing.proofs.step.Statement.{statement}
 use Rattle.listing.proofs.step.Tie as tie
 
-enum-known-p : tie.Need-enum-known-p
-enum-known-p c = search needs
-
-number-of-requires : tie.Need-number-of-requires
-number-of-requires c κs = search needs
-
-put-refused-requires : tie.Need-put-refused-requires
-put-refused-requires c κs = search needs
-
-enum-known-p-2 : tie.Need-enum-known-p-2
-enum-known-p-2 c = search needs
-
-put-first-line-requires : tie.Need-put-first-line-requires
-put-first-line-requires c κs = search needs
-
-enum-known-p-3 : tie.Need-enum-known-p-3
-enum-known-p-3 c = search needs
-
 fill-requires : tie.Need-fill-requires
 unfolding Sound
 fill-requires c κs = let s = c .before .before .before .before .before .before .before in (rw (c .before .before .p3 .given .1) at (s .pre .0), s .pre .1 .0)
 
-enum-known-p-4 : tie.Need-enum-known-p-4
-enum-known-p-4 c = search needs
-
 show-requires : tie.Need-show-requires
 unfolding Sound
 show-requires c κs = let s = c .before .before .before .before .before .before .before .before in (rw (c .before .before .before .p4 .given .1) at (s .pre .0), s .pre .1 .1)
-
-enum-known-p-5 : tie.Need-enum-known-p-5
-enum-known-p-5 c = search needs
-
-put-end-requires : tie.Need-put-end-requires
-put-end-requires c κs = search needs
-
-enum-told : tie.Need-enum-told
-enum-told c = search needs
-
-same-length : tie.Need-same-length
-same-length c = search needs
 
 returns : tie.Need-returns
 returns c = let s : tie.Start = search in
@@ -55,33 +22,18 @@ returns c = let s : tie.Start = search in
     goes-refused (s .args .file .now) (s .args .words .now) (s .args .text .now) (c .before .before .put-refused .last .0) (s .args .p) (s .args .at) (c .before .before .put-refused .result) (k .number-of .result)
     (f .p .given .0 .0 .place) (f .p .given .0 .0) (f .p .given .1) (k .number-of .ensures) refl (c .before .before .put-refused .ensures)
 
-same-length-2 : tie.Need-same-length-2
-same-length-2 c = search needs
-
 returns-2 : tie.Need-returns-2
 returns-2 c = let s = c .before .before .before .before .before .before .before .before .before .before in
     goes-head (s .args .file .now) (s .args .words .now) (s .args .text .now) (c .before .before .put-first-line .last .1 .1 .0) (s .args .p) (s .args .at) (c .before .before .put-first-line .result) (c .before .before .before .before .before .p2 .given .0 .0)
     (c .before .before .before .before .before .p2 .given .1) (s .pre .0) (c .before .before .put-first-line .ensures)
-
-same-length-3 : tie.Need-same-length-3
-same-length-3 c = search needs
 
 returns-3 : tie.Need-returns-3
 returns-3 c = let s = c .before .before .before .before .before .before .before .before .before .before in
     goes-fill (s .args .file .now) (c .before .before .fill .last .1 .1 .0) (s .args .text .now) (s .args .p) (s .args .at) (c .before .before .before .before .before .p3 .given .0 .0) (c .before .before .fill .result) (c .before .before .before .before .before .p3 .given .1)
     (c .before .before .fill .ensures .0) (c .before .before .fill .ensures .1) (omega (arith, s .pre .1 .1))
 
-same-length-4 : tie.Need-same-length-4
-same-length-4 c = search needs
-
-same-length-5 : tie.Need-same-length-5
-same-length-5 c = search needs
-
 returns-4 : tie.Need-returns-4
 returns-4 c = rw (c .before .before .before .before .before .before .p4 .given .1) (c .before .before .show .ensures)
-
-same-length-6 : tie.Need-same-length-6
-same-length-6 c = search needs
 
 returns-5 : tie.Need-returns-5
 returns-5 c = let s = c .before .before .before .before .before .before .before .before .before .before in
@@ -94,29 +46,8 @@ returns-6 c = let s = c .before .before .before .before .before in
 
 pub step-spec : {M : Type 1} → statement M
 step-spec =
-    tie.close
-    (tie.spec
-    enum-known-p
-    number-of-requires
-    put-refused-requires
-    enum-known-p-2
-    put-first-line-requires
-    enum-known-p-3
-    fill-requires
-    enum-known-p-4
-    show-requires
-    enum-known-p-5
-    put-end-requires
-    enum-told
-    same-length
-    returns
-    same-length-2
-    returns-2
-    same-length-3
-    returns-3
-    same-length-4
-    same-length-5
-    returns-4
-    same-length-6
-    returns-5
-    returns-6)
+    tie.close (tie.spec (λ c. search needs) (λ c κs. search needs) (λ c κs. search needs) (λ c. search needs)
+    (λ c κs. search needs) (λ c. search needs) fill-requires (λ c. search needs) show-requires
+    (λ c. search needs) (λ c κs. search needs) (λ c. search needs) (λ c. search needs) returns
+    (λ c. search needs) returns-2 (λ c. search needs) returns-3 (λ c. search needs) (λ c. search needs)
+    returns-4 (λ c. search needs) returns-5 returns-6)

@@ -9,15 +9,6 @@ use borrow.Author.Needs.{needs}
 use Rattle.polar.proofs.bin_of.Statement.{statement}
 use Rattle.polar.proofs.bin_of.Tie as tie
 
-enum-told : tie.Need-enum-told
-enum-told c = search needs
-
-enum-known-reading : tie.Need-enum-known-reading
-enum-known-reading c = search needs
-
-hundredths-of-requires : tie.Need-hundredths-of-requires
-hundredths-of-requires c κs = search needs
-
 returns : tie.Need-returns
 unfolding binOf
 returns c = ap binOf (sym (c .enum-told .given .1))
@@ -29,4 +20,4 @@ returns-2 c = let r = c .before .before .reading .given in
 
 pub bin-of-spec : {M : Type 1} → statement M
 bin-of-spec =
-    tie.close (tie.spec enum-told enum-known-reading hundredths-of-requires returns returns-2)
+    tie.close (tie.spec (λ c. search needs) (λ c. search needs) (λ c κs. search needs) returns returns-2)

@@ -11,12 +11,6 @@ use borrow.Author.Needs.{needs}
 use Rattle.polar.proofs.bin_value_on.Statement.{statement}
 use Rattle.polar.proofs.bin_value_on.Tie as tie
 
-rays-in-requires : tie.Need-rays-in-requires
-rays-in-requires c κs = search needs
-
-bins-in-requires : tie.Need-bins-in-requires
-bins-in-requires c κs = search needs
-
 returns : tie.Need-returns
 unfolding refuse
 returns c = let a = c .before .before .before .before .args in
@@ -27,17 +21,11 @@ unfolding refuse
 returns-2 c = let a = c .before .before .before .before .before .args in
     bin-none (now (a .file)) (a .c) _ _ (c .before .before .before .rays-in .ensures) (c .before .before .bins-in .ensures) (a .ray) (a .bin) (c .if2 .taken)
 
-product-in-requires : tie.Need-product-in-requires
-product-in-requires c κs = search needs
-
 level-in-requires : tie.Need-level-in-requires
 level-in-requires c κs = (c .before .before .before .before .before .before .pre, (omega (arith, c .before .before .before .before .rays-in .ensures), omega (arith, c .before .before .before .bins-in .ensures)))
 
 reading-of-requires : tie.Need-reading-of-requires
 reading-of-requires c κs = let p = ap levelCount (c .before .product-in .ensures) in omega (arith, c .level-in .ensures .1)
-
-bin-of-requires : tie.Need-bin-of-requires
-bin-of-requires c κs = search needs
 
 returns-3 : tie.Need-returns-3
 returns-3 c = let a = c .before .before .before .before .before .before .before .before .before .args in
@@ -48,14 +36,5 @@ returns-3 c = let a = c .before .before .before .before .before .before .before 
 
 pub bin-value-on-spec : {M : Type 1} → statement M
 bin-value-on-spec =
-    tie.close
-    (tie.spec
-    rays-in-requires
-    bins-in-requires
-    returns
-    returns-2
-    product-in-requires
-    level-in-requires
-    reading-of-requires
-    bin-of-requires
-    returns-3)
+    tie.close (tie.spec (λ c κs. search needs) (λ c κs. search needs) returns returns-2 (λ c κs. search needs)
+    level-in-requires reading-of-requires (λ c κs. search needs) returns-3)

@@ -9,9 +9,6 @@ use borrow.Author.Needs.{needs}
 use Rattle.polar.proofs.elevation_of.Statement.{statement}
 use Rattle.polar.proofs.elevation_of.Tie as tie
 
-signed16-requires : tie.Need-signed16-requires
-signed16-requires c κs = search needs
-
 returns : tie.Need-returns
 unfolding elevationOf
 returns c = rw (eq-eqb _ _ (c .if1 .taken))
@@ -21,4 +18,4 @@ unfolding elevationOf
 returns-2 c = rw (ne-eqb _ _ (c .before .if1 .left)) (ap Hundredths (toZ-ofZ w32 (c .signed16 .result) (record { sfits = c .signed16 .ok }) ∙ c .signed16 .ensures))
 
 pub elevation-of-spec : {M : Type 1} → statement M
-elevation-of-spec = tie.close (tie.spec signed16-requires returns returns-2)
+elevation-of-spec = tie.close (tie.spec (λ c κs. search needs) returns returns-2)

@@ -7,18 +7,6 @@ use borrow.Author.Needs.{needs}
 use Rattle.polar.proofs.open.Statement.{statement}
 use Rattle.polar.proofs.open.Tie as tie
 
-walk-requires : tie.Need-walk-requires
-walk-requires c κs = search needs
-
-enum-known-f : tie.Need-enum-known-f
-enum-known-f c = search needs
-
-summary-of-requires : tie.Need-summary-of-requires
-summary-of-requires c κs = search needs
-
-enum-known-refusal : tie.Need-enum-known-refusal
-enum-known-refusal c = search needs
-
 returns : tie.Need-returns
 unfolding openAnswer
 returns c = record { answer = ap File (c .summary-of .ensures) ∙ sym (file-some _ _ _ _ (sym (c .before .before .before .before .before .walk .ensures) ∙ c .before .before .before .f .given .1)) }
@@ -29,5 +17,5 @@ returns-2 c = record { answer = sym (file-bad _ _ _ _ (sym (c .before .before .b
 
 pub open-spec : {M : Type 1} → statement M
 open-spec =
-    tie.close
-    (tie.spec walk-requires enum-known-f summary-of-requires enum-known-refusal returns returns-2)
+    tie.close (tie.spec (λ c κs. search needs) (λ c. search needs) (λ c κs. search needs) (λ c. search needs)
+    returns returns-2)

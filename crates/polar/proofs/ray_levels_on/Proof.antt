@@ -9,12 +9,6 @@ use borrow.Author.Needs.{needs}
 use Rattle.polar.proofs.ray_levels_on.Statement.{statement}
 use Rattle.polar.proofs.ray_levels_on.Tie as tie
 
-rays-in-requires : tie.Need-rays-in-requires
-rays-in-requires c κs = search needs
-
-bins-in-requires : tie.Need-bins-in-requires
-bins-in-requires c κs = search needs
-
 returns : tie.Need-returns
 unfolding refuse
 returns c = let a = c .before .before .before .before .before .args in
@@ -28,21 +22,11 @@ returns-2 c = let a = c .before .before .before .before .before .before .args in
 ray-into-requires : tie.Need-ray-into-requires
 ray-into-requires c κs = (c .before .before .before .before .before .before .before .pre, (omega (arith, c .before .before .before .before .rays-in .ensures), omega (arith, c .before .before .before .bins-in .ensures)))
 
-same-length : tie.Need-same-length
-same-length c = search needs
-
 returns-3 : tie.Need-returns-3
 returns-3 c = let a = c .before .before .before .before .before .before .before .before .before .before .args in
     (ray-fits (now (a .file)) (a .c) _ _ (c .before .before .before .before .before .before .before .rays-in .ensures) (c .before .before .before .before .before .before .bins-in .ensures) (a .ray) (length (now (a .out))) (c .before .before .before .before .before .if1 .left) (c .before .before .before .before .if2 .left), c .before .before .ray-into .ensures)
 
 pub ray-levels-on-spec : {M : Type 1} → statement M
 ray-levels-on-spec =
-    tie.close
-    (tie.spec
-    rays-in-requires
-    bins-in-requires
-    returns
-    returns-2
-    ray-into-requires
-    same-length
-    returns-3)
+    tie.close (tie.spec (λ c κs. search needs) (λ c κs. search needs) returns returns-2 ray-into-requires
+    (λ c. search needs) returns-3)

@@ -13,12 +13,6 @@ use Rattle.polar.proofs.ray_values_on.Tie as tie
 abbrev room : tie.Start → ℕ
 room s = min (length (now (s .args .marks))) (length (now (s .args .values)))
 
-rays-in-requires : tie.Need-rays-in-requires
-rays-in-requires c κs = search needs
-
-bins-in-requires : tie.Need-bins-in-requires
-bins-in-requires c κs = search needs
-
 returns : tie.Need-returns
 unfolding refuse
 returns c = let s = c .before .before .before .before .before in
@@ -34,29 +28,11 @@ unfolding refuse
 returns-3 c = let s = c .before .before .before .before .before .before .before in
     (ray-short (now (s .args .file)) (s .args .c) _ _ (c .before .before .before .before .rays-in .ensures) (c .before .before .before .bins-in .ensures) (s .args .ray) (room s) (c .before .before .if1 .left) (omega arith), (refl, refl))
 
-readings-into-requires : tie.Need-readings-into-requires
-readings-into-requires c κs = search needs
-
-same-length : tie.Need-same-length
-same-length c = search needs
-
-same-length-2 : tie.Need-same-length-2
-same-length-2 c = search needs
-
 returns-4 : tie.Need-returns-4
 returns-4 c = let s = c .before .before .before .before .before .before .before .before .before .before .before .before .before in
     (ray-fits (now (s .args .file)) (s .args .c) _ _ (c .before .before .before .before .before .before .before .before .before .before .rays-in .ensures) (c .before .before .before .before .before .before .before .before .before .bins-in .ensures) (s .args .ray) (room s) (c .before .before .before .before .before .before .before .before .if1 .left) (omega arith), c .before .before .before .readings-into .ensures)
 
 pub ray-values-on-spec : {M : Type 1} → statement M
 ray-values-on-spec =
-    tie.close
-    (tie.spec
-    rays-in-requires
-    bins-in-requires
-    returns
-    returns-2
-    returns-3
-    readings-into-requires
-    same-length
-    same-length-2
-    returns-4)
+    tie.close (tie.spec (λ c κs. search needs) (λ c κs. search needs) returns returns-2 returns-3
+    (λ c κs. search needs) (λ c. search needs) (λ c. search needs) returns-4)

@@ -43,12 +43,5 @@ returns-2 c = record { answer = sym (on-refused _ _ _ _ _ (sym (c .before .befor
 
 pub stretches-spec : {M : Type 1} → statement M
 stretches-spec =
-    tie.close
-    (tie.spec
-    (λ c κs. search needs)
-    (λ c. search needs)
-    stretches-on-requires
-    (λ c. search needs)
-    (λ c. search needs)
-    returns
-    returns-2)
+    tie.close (tie.spec (λ c κs. search needs) (λ c. search needs) stretches-on-requires (λ c. search needs)
+    (λ c. search needs) returns returns-2)

@@ -16,24 +16,12 @@ use borrow.Author.Needs.{needs}
 use Rattle.polar.proofs.stretches_on.Statement.{statement}
 use Rattle.polar.proofs.stretches_on.Tie as tie
 
-rays-in-requires : tie.Need-rays-in-requires
-rays-in-requires c κs = search needs
-
-bins-in-requires : tie.Need-bins-in-requires
-bins-in-requires c κs = search needs
-
-right-t-requires : tie.Need-right-t-requires
-right-t-requires c κs = search needs
-
 returns : tie.Need-returns
 unfolding refuse
 returns c = let a = c .before .before .before .before .before .before .args in
     let back = toZ-ofZ w32 (a .t) (c .before .before .before .before .before .before .fits .t) in
     let wrong = ap rightT (sym back) ∙ sym (c .before .right-t .ensures) ∙ not-true _ (c .if1 .taken) in
     (list-wrong-t (now (a .file)) (a .c) _ _ (c .before .before .before .rays-in .ensures) (c .before .before .bins-in .ensures) (a .ray) (a .t) (a .bin) _ wrong, refl)
-
-right-point-requires : tie.Need-right-point-requires
-right-point-requires c κs = search needs
 
 returns-2 : tie.Need-returns-2
 unfolding refuse
@@ -55,9 +43,6 @@ list-into-requires c κs = let a = c .before .before .before .before .before .be
     let er = sym (c .before .before .before .before .before .before .before .rays-in .ensures) in
     (c .before .before .before .before .before .before .before .before .before .before .pre, (λ i. rightPoint (eb i) (er i) (a .ray) (a .bin)) ∙ sym (c .before .before .before .right-point .ensures) ∙ not-false _ (c .before .before .if2 .left))
 
-same-length : tie.Need-same-length
-same-length c = search needs
-
 returns-4 : tie.Need-returns-4
 returns-4 c = let a = c .before .before .before .before .before .before .before .before .before .before .before .before .before .args in
     let s = now (a .file) in
@@ -71,15 +56,5 @@ returns-4 c = let a = c .before .before .before .before .before .before .before 
 
 pub stretches-on-spec : {M : Type 1} → statement M
 stretches-on-spec =
-    tie.close
-    (tie.spec
-    rays-in-requires
-    bins-in-requires
-    right-t-requires
-    returns
-    right-point-requires
-    returns-2
-    returns-3
-    list-into-requires
-    same-length
-    returns-4)
+    tie.close (tie.spec (λ c κs. search needs) (λ c κs. search needs) (λ c κs. search needs) returns
+    (λ c κs. search needs) returns-2 returns-3 list-into-requires (λ c. search needs) returns-4)

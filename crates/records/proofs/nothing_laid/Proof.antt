@@ -5,11 +5,8 @@ use borrow.Author.Needs.{needs}
 use Rattle.records.proofs.nothing_laid.Statement.{statement}
 use Rattle.records.proofs.nothing_laid.Tie as tie
 
-at-front-requires : tie.Need-at-front-requires
-at-front-requires c κs = search needs
-
 returns : tie.Need-returns
 returns c = (refl, refl, none-going _ _ (c .at-front .ensures))
 
 pub nothing-laid-spec : {M : Type 1} → statement M
-nothing-laid-spec = tie.close (tie.spec at-front-requires returns)
+nothing-laid-spec = tie.close (tie.spec (λ c κs. search needs) returns)

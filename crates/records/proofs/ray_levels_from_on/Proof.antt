@@ -12,12 +12,6 @@ use borrow.Author.Needs.{needs}
 use Rattle.records.proofs.ray_levels_from_on.Statement.{statement}
 use Rattle.records.proofs.ray_levels_from_on.Tie as tie
 
-rays-in-requires : tie.Need-rays-in-requires
-rays-in-requires c κs = search needs
-
-bins-in-requires : tie.Need-bins-in-requires
-bins-in-requires c κs = search needs
-
 returns : tie.Need-returns
 unfolding refuse
 returns c = let s = c .before .before .before .before .before in
@@ -28,12 +22,6 @@ unfolding refuse
 returns-2 c = let s = c .before .before .before .before .before .before in
     (from-short (now (s .args .file)) (s .args .c) _ _ (c .before .before .before .rays-in .ensures) (c .before .before .bins-in .ensures) (s .args .ray) (s .args .rec) (length (now (s .args .out))) (c .before .if1 .left) (c .if2 .taken), refl)
 
-levels-from-requires : tie.Need-levels-from-requires
-levels-from-requires c κs = search needs
-
-same-length : tie.Need-same-length
-same-length c = search needs
-
 returns-3 : tie.Need-returns-3
 returns-3 c = let s = c .before .before .before .before .before .before .before .before .before .before .before in
     let r = c .before .before .before .levels-from in
@@ -41,9 +29,6 @@ returns-3 c = let s = c .before .before .before .before .before .before .before 
       from-given (now (s .args .file)) (s .args .c) _ _ (c .before .before .before .before .before .before .before .before .rays-in .ensures) (c .before .before .before .before .before .before .before .bins-in .ensures) (s .args .ray) (s .args .rec) _ (r .ensures .0) (length d) (c .before .before .before .before .before .before .if1 .left) (c .before .before .before .before .before .if2 .left) (c .if3 .taken),
       r .ensures .1 ∙ ap (λ (k : Bool). cond k (front (rayFrom (now (s .args .file)) (s .args .c) (s .args .rec)) d) d) (c .if3 .taken),
     )
-
-same-length-2 : tie.Need-same-length-2
-same-length-2 c = search needs
 
 returns-4 : tie.Need-returns-4
 unfolding refuse
@@ -56,14 +41,5 @@ returns-4 c = let s = c .before .before .before .before .before .before .before 
 
 pub ray-levels-from-on-spec : {M : Type 1} → statement M
 ray-levels-from-on-spec =
-    tie.close
-    (tie.spec
-    rays-in-requires
-    bins-in-requires
-    returns
-    returns-2
-    levels-from-requires
-    same-length
-    returns-3
-    same-length-2
-    returns-4)
+    tie.close (tie.spec (λ c κs. search needs) (λ c κs. search needs) returns returns-2 (λ c κs. search needs)
+    (λ c. search needs) returns-3 (λ c. search needs) returns-4)

@@ -17,12 +17,6 @@ use Rattle.records.proofs.ray_values_from_on.Tie as tie
 abbrev room : tie.Start → ℕ
 room s = min (length (now (s .args .marks))) (length (now (s .args .values)))
 
-rays-in-requires : tie.Need-rays-in-requires
-rays-in-requires c κs = search needs
-
-bins-in-requires : tie.Need-bins-in-requires
-bins-in-requires c κs = search needs
-
 returns : tie.Need-returns
 unfolding refuse
 returns c = let s = c .before .before .before .before .before in
@@ -38,15 +32,6 @@ unfolding refuse
 returns-3 c = let s = c .before .before .before .before .before .before .before in
     (from-short (now (s .args .file)) (s .args .c) _ _ (c .before .before .before .before .rays-in .ensures) (c .before .before .before .bins-in .ensures) (s .args .ray) (s .args .rec) (room s) (c .before .before .if1 .left) (omega arith), (refl, refl))
 
-readings-from-requires : tie.Need-readings-from-requires
-readings-from-requires c κs = search needs
-
-same-length : tie.Need-same-length
-same-length c = search needs
-
-same-length-2 : tie.Need-same-length-2
-same-length-2 c = search needs
-
 returns-4 : tie.Need-returns-4
 returns-4 c = let s = c .before .before .before .before .before .before .before .before .before .before .before .before .before .before in
     let f = now (s .args .file) in
@@ -59,12 +44,6 @@ returns-4 c = let s = c .before .before .before .before .before .before .before 
         r .ensures .1 .1 ∙ ap (λ (k : Bool). cond k (valuesOf (productIn f (s .args .c)) (rayFrom f (s .args .c) (s .args .rec)) z) z) (c .if4 .taken),
       ),
     )
-
-same-length-3 : tie.Need-same-length-3
-same-length-3 c = search needs
-
-same-length-4 : tie.Need-same-length-4
-same-length-4 c = search needs
 
 returns-5 : tie.Need-returns-5
 unfolding refuse
@@ -82,17 +61,6 @@ returns-5 c = let s = c .before .before .before .before .before .before .before 
 
 pub ray-values-from-on-spec : {M : Type 1} → statement M
 ray-values-from-on-spec =
-    tie.close
-    (tie.spec
-    rays-in-requires
-    bins-in-requires
-    returns
-    returns-2
-    returns-3
-    readings-from-requires
-    same-length
-    same-length-2
-    returns-4
-    same-length-3
-    same-length-4
-    returns-5)
+    tie.close (tie.spec (λ c κs. search needs) (λ c κs. search needs) returns returns-2 returns-3
+    (λ c κs. search needs) (λ c. search needs) (λ c. search needs) returns-4 (λ c. search needs)
+    (λ c. search needs) returns-5)

@@ -9,27 +9,6 @@ use borrow.Author.Needs.{needs}
 use Rattle.records.proofs.start_in.Statement.{statement}
 use Rattle.records.proofs.start_in.Tie as tie
 
-greatest-in-requires : tie.Need-greatest-in-requires
-greatest-in-requires c κs = search needs
-
-bins-in-requires : tie.Need-bins-in-requires
-bins-in-requires c κs = search needs
-
-length-at-requires : tie.Need-length-at-requires
-length-at-requires c κs = search needs
-
-add-at-front : tie.Need-add-at-front
-add-at-front c = search needs
-
-cast-at-front : tie.Need-cast-at-front
-cast-at-front c = search needs
-
-add-at-front-2 : tie.Need-add-at-front-2
-add-at-front-2 c = search needs
-
-at-front-requires : tie.Need-at-front-requires
-at-front-requires c κs = search needs
-
 returns : tie.Need-returns
 unfolding lengthAt
 returns c = let s = c .before .before .before .before .before in let a = s .args in
@@ -41,13 +20,5 @@ returns c = let s = c .before .before .before .before .before in let a = s .args
 
 pub start-in-spec : {M : Type 1} → statement M
 start-in-spec =
-    tie.close
-    (tie.spec
-    greatest-in-requires
-    bins-in-requires
-    length-at-requires
-    add-at-front
-    cast-at-front
-    add-at-front-2
-    at-front-requires
-    returns)
+    tie.close (tie.spec (λ c κs. search needs) (λ c κs. search needs) (λ c κs. search needs) (λ c. search needs)
+    (λ c. search needs) (λ c. search needs) (λ c κs. search needs) returns)

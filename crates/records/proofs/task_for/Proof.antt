@@ -32,12 +32,5 @@ returns-2 c = let s : tie.Start = search in
 
 pub task-for-spec : {M : Type 1} → statement M
 task-for-spec =
-    tie.close
-    (tie.spec
-    (λ c κs. search needs)
-    (λ c. search needs)
-    task-on-requires
-    (λ c. search needs)
-    (λ c κs. search needs)
-    returns
-    returns-2)
+    tie.close (tie.spec (λ c κs. search needs) (λ c. search needs) task-on-requires (λ c. search needs)
+    (λ c κs. search needs) returns returns-2)

@@ -13,21 +13,12 @@ use borrow.Author.Needs.{needs}
 use Rattle.records.proofs.task_on.Statement.{statement}
 use Rattle.records.proofs.task_on.Tie as tie
 
-rays-in-requires : tie.Need-rays-in-requires
-rays-in-requires c κs = search needs
-
-nothing-laid-requires : tie.Need-nothing-laid-requires
-nothing-laid-requires c κs = search needs
-
 returns : tie.Need-returns
 unfolding refuse
 returns c = let s = c .before .before .before .before in let a = s .args in
     let r = c .nothing-laid .ensures in
     let short : a .room < raysIn (a .file .now) (a .c) = omega (arith, c .before .before .rays-in .ensures, c .before .if1 .taken) in
     (r .0 ∙ sym (build-short (a .file .now) (a .room) (a .c) short), none-lays (a .file .now) _ _ (r .1) (r .2) (r .0) (a .c) (a .room))
-
-start-in-requires : tie.Need-start-in-requires
-start-in-requires c κs = search needs
 
 returns-2 : tie.Need-returns-2
 returns-2 c = let s = c .before .before .before .before in let a = s .args in
@@ -44,4 +35,4 @@ returns-2 c = let s = c .before .before .before .before in let a = s .args in
 
 pub task-on-spec : {M : Type 1} → statement M
 task-on-spec =
-    tie.close (tie.spec rays-in-requires nothing-laid-requires returns start-in-requires returns-2)
+    tie.close (tie.spec (λ c κs. search needs) (λ c κs. search needs) returns (λ c κs. search needs) returns-2)

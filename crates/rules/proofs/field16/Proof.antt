@@ -4,14 +4,8 @@ use mathlib.Core.Path.{_∙_}
 use Rattle.rules.proofs.field16.Statement.{statement}
 use Rattle.rules.proofs.field16.Tie as tie
 
-spot-requires : tie.Need-spot-requires
-spot-requires c κs = search needs
-
-be16-requires : tie.Need-be16-requires
-be16-requires c κs = search needs
-
 returns : tie.Need-returns
 returns c = c .be16 .ensures ∙ c .before .spot .ensures 2
 
 pub field16-spec : {M : Type 1} → statement M
-field16-spec = tie.close (tie.spec spot-requires be16-requires returns)
+field16-spec = tie.close (tie.spec (λ c κs. search needs) (λ c κs. search needs) returns)

@@ -4,14 +4,8 @@ use mathlib.Core.Path.{_∙_}
 use Rattle.rules.proofs.field64.Statement.{statement}
 use Rattle.rules.proofs.field64.Tie as tie
 
-spot-requires : tie.Need-spot-requires
-spot-requires c κs = search needs
-
-be64-requires : tie.Need-be64-requires
-be64-requires c κs = search needs
-
 returns : tie.Need-returns
 returns c = c .be64 .ensures ∙ c .before .spot .ensures 8
 
 pub field64-spec : {M : Type 1} → statement M
-field64-spec = tie.close (tie.spec spot-requires be64-requires returns)
+field64-spec = tie.close (tie.spec (λ c κs. search needs) (λ c κs. search needs) returns)

@@ -4,14 +4,8 @@ use mathlib.Core.Path.{_∙_}
 use Rattle.rules.proofs.field8.Statement.{statement}
 use Rattle.rules.proofs.field8.Tie as tie
 
-spot-requires : tie.Need-spot-requires
-spot-requires c κs = search needs
-
-octet-requires : tie.Need-octet-requires
-octet-requires c κs = search needs
-
 returns : tie.Need-returns
 returns c = c .octet .ensures ∙ c .before .spot .ensures 1
 
 pub field8-spec : {M : Type 1} → statement M
-field8-spec = tie.close (tie.spec spot-requires octet-requires returns)
+field8-spec = tie.close (tie.spec (λ c κs. search needs) (λ c κs. search needs) returns)

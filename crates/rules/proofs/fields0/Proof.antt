@@ -9,18 +9,6 @@ use Rattle.rules.proofs.Chains.{both, flat}
 use Rattle.rules.proofs.fields0.Statement.{statement}
 use Rattle.rules.proofs.fields0.Tie as tie
 
-within32-requires : tie.Need-within32-requires
-within32-requires c κs = search needs
-
-within8-requires : tie.Need-within8-requires
-within8-requires c κs = search needs
-
-within8-requires-2 : tie.Need-within8-requires-2
-within8-requires-2 c κs = search needs
-
-within64-requires : tie.Need-within64-requires
-within64-requires c κs = search needs
-
 returns : tie.Need-returns
 unfolding rules0
 returns c =
@@ -33,5 +21,5 @@ returns c =
 
 pub fields0-spec : {M : Type 1} → statement M
 fields0-spec =
-    tie.close
-    (tie.spec within32-requires within8-requires within8-requires-2 within64-requires returns)
+    tie.close (tie.spec (λ c κs. search needs) (λ c κs. search needs) (λ c κs. search needs)
+    (λ c κs. search needs) returns)

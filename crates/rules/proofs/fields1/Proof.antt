@@ -8,39 +8,6 @@ use Rattle.rules.proofs.Chains.{both, flat}
 use Rattle.rules.proofs.fields1.Statement.{statement}
 use Rattle.rules.proofs.fields1.Tie as tie
 
-within16-requires : tie.Need-within16-requires
-within16-requires c κs = search needs
-
-within16-requires-2 : tie.Need-within16-requires-2
-within16-requires-2 c κs = search needs
-
-within8-requires : tie.Need-within8-requires
-within8-requires c κs = search needs
-
-within16-requires-3 : tie.Need-within16-requires-3
-within16-requires-3 c κs = search needs
-
-within8-requires-2 : tie.Need-within8-requires-2
-within8-requires-2 c κs = search needs
-
-within8-requires-3 : tie.Need-within8-requires-3
-within8-requires-3 c κs = search needs
-
-within8-requires-4 : tie.Need-within8-requires-4
-within8-requires-4 c κs = search needs
-
-within8-requires-5 : tie.Need-within8-requires-5
-within8-requires-5 c κs = search needs
-
-within8-requires-6 : tie.Need-within8-requires-6
-within8-requires-6 c κs = search needs
-
-within8-requires-7 : tie.Need-within8-requires-7
-within8-requires-7 c κs = search needs
-
-within8-requires-8 : tie.Need-within8-requires-8
-within8-requires-8 c κs = search needs
-
 returns : tie.Need-returns
 unfolding rules1
 returns c =
@@ -60,17 +27,6 @@ returns c =
 
 pub fields1-spec : {M : Type 1} → statement M
 fields1-spec =
-    tie.close
-    (tie.spec
-    within16-requires
-    within16-requires-2
-    within8-requires
-    within16-requires-3
-    within8-requires-2
-    within8-requires-3
-    within8-requires-4
-    within8-requires-5
-    within8-requires-6
-    within8-requires-7
-    within8-requires-8
-    returns)
+    tie.close (tie.spec (λ c κs. search needs) (λ c κs. search needs) (λ c κs. search needs)
+    (λ c κs. search needs) (λ c κs. search needs) (λ c κs. search needs) (λ c κs. search needs)
+    (λ c κs. search needs) (λ c κs. search needs) (λ c κs. search needs) (λ c κs. search needs) returns)

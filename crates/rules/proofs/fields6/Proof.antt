@@ -8,9 +8,6 @@ use Rattle.rules.proofs.Chains.{flat}
 use Rattle.rules.proofs.fields6.Statement.{statement}
 use Rattle.rules.proofs.fields6.Tie as tie
 
-within8-requires : tie.Need-within8-requires
-within8-requires c κs = search needs
-
 returns : tie.Need-returns
 unfolding rules6
 returns c =
@@ -19,4 +16,4 @@ returns c =
     ∙ flat true (now (a .s)) (a .at) rules6
 
 pub fields6-spec : {M : Type 1} → statement M
-fields6-spec = tie.close (tie.spec within8-requires returns)
+fields6-spec = tie.close (tie.spec (λ c κs. search needs) returns)

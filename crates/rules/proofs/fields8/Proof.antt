@@ -8,9 +8,6 @@ use Rattle.rules.proofs.Chains.{flat}
 use Rattle.rules.proofs.fields8.Statement.{statement}
 use Rattle.rules.proofs.fields8.Tie as tie
 
-within32-requires : tie.Need-within32-requires
-within32-requires c κs = search needs
-
 returns : tie.Need-returns
 unfolding rules8
 returns c =
@@ -19,4 +16,4 @@ returns c =
     ∙ flat true (now (a .s)) (a .at) rules8
 
 pub fields8-spec : {M : Type 1} → statement M
-fields8-spec = tie.close (tie.spec within32-requires returns)
+fields8-spec = tie.close (tie.spec (λ c κs. search needs) returns)

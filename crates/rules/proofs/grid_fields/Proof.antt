@@ -8,33 +8,6 @@ use Rattle.rules.proofs.Chains.{both, flat}
 use Rattle.rules.proofs.grid_fields.Statement.{statement}
 use Rattle.rules.proofs.grid_fields.Tie as tie
 
-within8-requires : tie.Need-within8-requires
-within8-requires c κs = search needs
-
-within8-requires-2 : tie.Need-within8-requires-2
-within8-requires-2 c κs = search needs
-
-within8-requires-3 : tie.Need-within8-requires-3
-within8-requires-3 c κs = search needs
-
-within16-requires : tie.Need-within16-requires
-within16-requires c κs = search needs
-
-within32-requires : tie.Need-within32-requires
-within32-requires c κs = search needs
-
-within32-requires-2 : tie.Need-within32-requires-2
-within32-requires-2 c κs = search needs
-
-magnitude32-requires : tie.Need-magnitude32-requires
-magnitude32-requires c κs = search needs
-
-within32-requires-3 : tie.Need-within32-requires-3
-within32-requires-3 c κs = search needs
-
-within32-requires-4 : tie.Need-within32-requires-4
-within32-requires-4 c κs = search needs
-
 returns : tie.Need-returns
 returns c =
     let a = c .before .before .before .before .before .before .before .before .before .before .args in
@@ -51,15 +24,6 @@ returns c =
 
 pub grid-fields-spec : {M : Type 1} → statement M
 grid-fields-spec =
-    tie.close
-    (tie.spec
-    within8-requires
-    within8-requires-2
-    within8-requires-3
-    within16-requires
-    within32-requires
-    within32-requires-2
-    magnitude32-requires
-    within32-requires-3
-    within32-requires-4
-    returns)
+    tie.close (tie.spec (λ c κs. search needs) (λ c κs. search needs) (λ c κs. search needs)
+    (λ c κs. search needs) (λ c κs. search needs) (λ c κs. search needs) (λ c κs. search needs)
+    (λ c κs. search needs) (λ c κs. search needs) returns)

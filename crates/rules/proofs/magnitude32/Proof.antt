@@ -4,12 +4,9 @@ use Rattle.rules.specs.Rules.{meets}
 use Rattle.rules.proofs.magnitude32.Statement.{statement}
 use Rattle.rules.proofs.magnitude32.Tie as tie
 
-field32-requires : tie.Need-field32-requires
-field32-requires c κs = search needs
-
 returns : tie.Need-returns
 unfolding meets
 returns c = rw (c .field32 .ensures)
 
 pub magnitude32-spec : {M : Type 1} → statement M
-magnitude32-spec = tie.close (tie.spec field32-requires returns)
+magnitude32-spec = tie.close (tie.spec (λ c κs. search needs) returns)

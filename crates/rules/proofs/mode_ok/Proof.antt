@@ -5,15 +5,9 @@ use Rattle.rules.proofs.Chains.{one-of}
 use Rattle.rules.proofs.mode_ok.Statement.{statement}
 use Rattle.rules.proofs.mode_ok.Tie as tie
 
-within8-requires : tie.Need-within8-requires
-within8-requires c κs = search needs
-
-within8-requires-2 : tie.Need-within8-requires-2
-within8-requires-2 c κs = search needs
-
 returns : tie.Need-returns
 unfolding meets
 returns c = one-of (c .before .within8 .ensures) (c .within82 .ensures)
 
 pub mode-ok-spec : {M : Type 1} → statement M
-mode-ok-spec = tie.close (tie.spec within8-requires within8-requires-2 returns)
+mode-ok-spec = tie.close (tie.spec (λ c κs. search needs) (λ c κs. search needs) returns)

@@ -6,18 +6,6 @@ use borrow.Author.Needs.{needs}
 use Rattle.rules.proofs.points_at.Statement.{statement}
 use Rattle.rules.proofs.points_at.Tie as tie
 
-bins-at-requires : tie.Need-bins-at-requires
-bins-at-requires c κs = search needs
-
-wide-requires : tie.Need-wide-requires
-wide-requires c κs = search needs
-
-rays-at-requires : tie.Need-rays-at-requires
-rays-at-requires c κs = search needs
-
-wide-requires-2 : tie.Need-wide-requires-2
-wide-requires-2 c κs = search needs
-
 mul-result : tie.Need-mul-result
 mul-result c = record { fits = below 32 (omega arith) (omega arith) }
 
@@ -27,5 +15,5 @@ returns c = cc
 
 pub points-at-spec : {M : Type 1} → statement M
 points-at-spec =
-    tie.close
-    (tie.spec bins-at-requires wide-requires rays-at-requires wide-requires-2 mul-result returns)
+    tie.close (tie.spec (λ c κs. search needs) (λ c κs. search needs) (λ c κs. search needs)
+    (λ c κs. search needs) mul-result returns)

@@ -17,12 +17,6 @@ returns c w =
     let a = c .before .args in
     be-past (now (a .s)) (length (now (a .s))) w (omega arith) ∙ sym (be-past (now (a .s)) (a .at + a .k - 1) w (omega arith))
 
-add-p : tie.Need-add-p
-add-p c = search needs
-
-sub-result : tie.Need-sub-result
-sub-result c = search needs
-
 returns-2 : tie.Need-returns-2
 unfolding field
 returns-2 c w =
@@ -34,4 +28,4 @@ unfolding field
 returns-3 c w = refl
 
 pub spot-spec : {M : Type 1} → statement M
-spot-spec = tie.close (tie.spec returns add-p sub-result returns-2 returns-3)
+spot-spec = tie.close (tie.spec returns (λ c. search needs) (λ c. search needs) returns-2 returns-3)

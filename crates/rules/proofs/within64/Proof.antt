@@ -4,12 +4,9 @@ use Rattle.rules.specs.Rules.{meets}
 use Rattle.rules.proofs.within64.Statement.{statement}
 use Rattle.rules.proofs.within64.Tie as tie
 
-field64-requires : tie.Need-field64-requires
-field64-requires c κs = search needs
-
 returns : tie.Need-returns
 unfolding meets
 returns c = rw (c .field64 .ensures)
 
 pub within64-spec : {M : Type 1} → statement M
-within64-spec = tie.close (tie.spec field64-requires returns)
+within64-spec = tie.close (tie.spec (λ c κs. search needs) returns)

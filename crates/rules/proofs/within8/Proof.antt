@@ -4,12 +4,9 @@ use Rattle.rules.specs.Rules.{meets}
 use Rattle.rules.proofs.within8.Statement.{statement}
 use Rattle.rules.proofs.within8.Tie as tie
 
-field8-requires : tie.Need-field8-requires
-field8-requires c κs = search needs
-
 returns : tie.Need-returns
 unfolding meets
 returns c = rw (c .field8 .ensures)
 
 pub within8-spec : {M : Type 1} → statement M
-within8-spec = tie.close (tie.spec field8-requires returns)
+within8-spec = tie.close (tie.spec (λ c κs. search needs) returns)

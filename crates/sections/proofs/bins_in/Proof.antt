@@ -6,15 +6,9 @@ use borrow.Author.Needs.{needs}
 use Rattle.sections.proofs.bins_in.Statement.{statement}
 use Rattle.sections.proofs.bins_in.Tie as tie
 
-bins-at-requires : tie.Need-bins-at-requires
-bins-at-requires c κs = search needs
-
-place-requires : tie.Need-place-requires
-place-requires c κs = search needs
-
 returns : tie.Need-returns
 unfolding binsIn binsAt
 returns c = c .place .ensures ∙ c .before .bins-at .ensures
 
 pub bins-in-spec : {M : Type 1} → statement M
-bins-in-spec = tie.close (tie.spec bins-at-requires place-requires returns)
+bins-in-spec = tie.close (tie.spec (λ c κs. search needs) (λ c κs. search needs) returns)

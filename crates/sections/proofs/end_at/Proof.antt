@@ -10,15 +10,6 @@ use borrow.Author.Needs.{needs}
 use Rattle.sections.proofs.end_at.Statement.{statement}
 use Rattle.sections.proofs.end_at.Tie as tie
 
-length-at-requires : tie.Need-length-at-requires
-length-at-requires c κs = search needs
-
-place-requires : tie.Need-place-requires
-place-requires c κs = search needs
-
-add-result : tie.Need-add-result
-add-result c = search needs
-
 returns : tie.Need-returns
 unfolding lengthAt
 returns c = ap (λ (n : ℕ). c .before .before .before .before .args .at + n) (c .place .ensures ∙ c .before .length-at .ensures)
@@ -31,4 +22,5 @@ returns-2 c = let a = c .before .before .args in
     omega arith
 
 pub end-at-spec : {M : Type 1} → statement M
-end-at-spec = tie.close (tie.spec length-at-requires place-requires add-result returns returns-2)
+end-at-spec =
+    tie.close (tie.spec (λ c κs. search needs) (λ c κs. search needs) (λ c. search needs) returns returns-2)

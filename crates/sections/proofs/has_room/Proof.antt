@@ -5,12 +5,9 @@ use borrow.Author.Needs.{needs}
 use Rattle.sections.proofs.has_room.Statement.{statement}
 use Rattle.sections.proofs.has_room.Tie as tie
 
-number-at-requires : tie.Need-number-at-requires
-number-at-requires c κs = search needs
-
 returns : tie.Need-returns
 unfolding roomForCut numberAt
 returns c = cc
 
 pub has-room-spec : {M : Type 1} → statement M
-has-room-spec = tie.close (tie.spec number-at-requires returns)
+has-room-spec = tie.close (tie.spec (λ c κs. search needs) returns)

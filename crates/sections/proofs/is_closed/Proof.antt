@@ -4,12 +4,9 @@ use borrow.Author.Needs.{needs}
 use Rattle.sections.proofs.is_closed.Statement.{statement}
 use Rattle.sections.proofs.is_closed.Tie as tie
 
-fields8-requires : tie.Need-fields8-requires
-fields8-requires c κs = search needs
-
 returns : tie.Need-returns
 unfolding closes
 returns c = cc
 
 pub is-closed-spec : {M : Type 1} → statement M
-is-closed-spec = tie.close (tie.spec fields8-requires returns)
+is-closed-spec = tie.close (tie.spec (λ c κs. search needs) returns)

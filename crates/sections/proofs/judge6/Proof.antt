@@ -4,32 +4,11 @@ use borrow.Author.Needs.{needs}
 use Rattle.sections.proofs.judge6.Statement.{statement}
 use Rattle.sections.proofs.judge6.Tie as tie
 
-length-at-requires : tie.Need-length-at-requires
-length-at-requires c κs = search needs
-
-fields6-requires : tie.Need-fields6-requires
-fields6-requires c κs = search needs
-
-accepted-requires : tie.Need-accepted-requires
-accepted-requires c κs = search needs
-
-check-requires : tie.Need-check-requires
-check-requires c κs = search needs
-
-check-requires-2 : tie.Need-check-requires-2
-check-requires-2 c κs = search needs
-
 returns : tie.Need-returns
 unfolding lengthAt
 returns c = cc
 
 pub judge6-spec : {M : Type 1} → statement M
 judge6-spec =
-    tie.close
-    (tie.spec
-    length-at-requires
-    fields6-requires
-    accepted-requires
-    check-requires
-    check-requires-2
-    returns)
+    tie.close (tie.spec (λ c κs. search needs) (λ c κs. search needs) (λ c κs. search needs)
+    (λ c κs. search needs) (λ c κs. search needs) returns)

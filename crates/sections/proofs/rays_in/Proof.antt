@@ -6,15 +6,9 @@ use borrow.Author.Needs.{needs}
 use Rattle.sections.proofs.rays_in.Statement.{statement}
 use Rattle.sections.proofs.rays_in.Tie as tie
 
-rays-at-requires : tie.Need-rays-at-requires
-rays-at-requires c κs = search needs
-
-place-requires : tie.Need-place-requires
-place-requires c κs = search needs
-
 returns : tie.Need-returns
 unfolding raysIn raysAt
 returns c = c .place .ensures ∙ c .before .rays-at .ensures
 
 pub rays-in-spec : {M : Type 1} → statement M
-rays-in-spec = tie.close (tie.spec rays-at-requires place-requires returns)
+rays-in-spec = tie.close (tie.spec (λ c κs. search needs) (λ c κs. search needs) returns)

@@ -5,24 +5,15 @@ use borrow.Author.Needs.{needs}
 use Rattle.walks.proofs.judge.Statement.{statement}
 use Rattle.walks.proofs.judge.Tie as tie
 
-judge1-requires : tie.Need-judge1-requires
-judge1-requires c κs = search needs
-
 returns : tie.Need-returns
 unfolding sectionChecks
 returns c = let n = c .before .before .before .args .n in
     rw (eq-eqb n 1 (c .before .if1 .taken)) (c .judge1 .ensures)
 
-judge6-requires : tie.Need-judge6-requires
-judge6-requires c κs = search needs
-
 returns-2 : tie.Need-returns-2
 unfolding sectionChecks
 returns-2 c = let n = c .before .before .before .before .args .n in
     rw (ne-eqb n 1 (c .before .before .if1 .left), eq-eqb n 6 (c .before .if2 .taken)) (c .judge6 .ensures)
-
-judge-own-requires : tie.Need-judge-own-requires
-judge-own-requires c κs = search needs
 
 returns-3 : tie.Need-returns-3
 unfolding sectionChecks
@@ -30,4 +21,6 @@ returns-3 c = let n = c .before .before .before .before .args .n in
     rw (ne-eqb n 1 (c .before .before .if1 .left), ne-eqb n 6 (c .before .if2 .left)) (c .judge-own .ensures)
 
 pub judge-spec : {M : Type 1} → statement M
-judge-spec = tie.close (tie.spec judge1-requires returns judge6-requires returns-2 judge-own-requires returns-3)
+judge-spec =
+    tie.close (tie.spec (λ c κs. search needs) returns (λ c κs. search needs) returns-2 (λ c κs. search needs)
+    returns-3)

@@ -5,24 +5,6 @@ use borrow.Author.Needs.{needs}
 use Rattle.walks.proofs.judge7.Statement.{statement}
 use Rattle.walks.proofs.judge7.Tie as tie
 
-enum-told : tie.Need-enum-told
-enum-told c = search needs
-
-judge7-requires : tie.Need-judge7-requires
-judge7-requires c κs = search needs
-
-enum-told-2 : tie.Need-enum-told-2
-enum-told-2 c = search needs
-
-judge7-requires-2 : tie.Need-judge7-requires-2
-judge7-requires-2 c κs = search needs
-
-enum-told-3 : tie.Need-enum-told-3
-enum-told-3 c = search needs
-
-judge-any7-requires : tie.Need-judge-any7-requires
-judge-any7-requires c κs = search needs
-
 returns : tie.Need-returns
 unfolding L.baseChecks
 returns c = rw (c .before .enum-told .given .1) (c .judge7 .ensures)
@@ -37,14 +19,5 @@ returns-3 c = rw (c .before .enum-told3 .given .1) (c .judge-any7 .ensures)
 
 pub judge7-spec : {M : Type 1} → statement M
 judge7-spec =
-    tie.close
-    (tie.spec
-    enum-told
-    judge7-requires
-    enum-told-2
-    judge7-requires-2
-    enum-told-3
-    judge-any7-requires
-    returns
-    returns-2
-    returns-3)
+    tie.close (tie.spec (λ c. search needs) (λ c κs. search needs) (λ c. search needs) (λ c κs. search needs)
+    (λ c. search needs) (λ c κs. search needs) returns returns-2 returns-3)

@@ -19,24 +19,9 @@ use borrow.Author.Needs.{needs}
 use Rattle.walks.proofs.judge_here.Statement.{statement}
 use Rattle.walks.proofs.judge_here.Tie as tie
 
-is-closed-requires : tie.Need-is-closed-requires
-is-closed-requires c κs = search needs
-
-accepted-requires : tie.Need-accepted-requires
-accepted-requires c κs = search needs
-
-check-requires : tie.Need-check-requires
-check-requires c κs = search needs
-
 returns : tie.Need-returns
 unfolding checksAt
 returns c = let a = c .before .before .before .before .before .args in rw (eq-eqb (a .at) (a .end) (c .before .before .before .if1 .taken), c .check .ensures, c .before .accepted .ensures, c .before .before .is-closed .ensures)
-
-is-framed-requires : tie.Need-is-framed-requires
-is-framed-requires c κs = search needs
-
-number-at-requires : tie.Need-number-at-requires
-number-at-requires c κs = search needs
 
 -- what both ways to judge a section ask, from its framing
 asked : (c : tie.After-number-at) → let s = c .before .before .before .before .before in
@@ -65,22 +50,13 @@ unfolding numberAt
 returns-2 c = let a = c .before .before .before .before .before .before .before .args in
     c .judge7 .ensures ∙ seven (ownOf (a .format)) (now (a .s)) (a .end) (a .x) (a .at) (c .before .before .before .before .before .if1 .left) (sym (c .before .before .before .before .is-framed .ensures) ∙ c .before .before .before .if2 .taken) (sym (c .before .before .number-at .ensures) ∙ c .before .if3 .taken)
 
-has-room-requires : tie.Need-has-room-requires
-has-room-requires c κs = search needs
-
 judge-requires : tie.Need-judge-requires
 judge-requires c κs = (asked (c .before .before) .0, c .before .if3 .left)
-
-check-requires-2 : tie.Need-check-requires-2
-check-requires-2 c κs = search needs
 
 returns-3 : tie.Need-returns-3
 unfolding checksAt numberAt
 returns-3 c = let a = c .before .before .before .before .before .before .before .before .before .args in
     rw (ne-eqb (a .at) (a .end) (c .before .before .before .before .before .before .before .if1 .left), sym (c .before .before .before .before .before .before .is-framed .ensures) ∙ c .before .before .before .before .before .if2 .taken, c .check2 .ensures, c .before .judge .ensures, c .before .before .has-room .ensures, c .before .before .before .before .number-at .ensures)
-
-refused-requires : tie.Need-refused-requires
-refused-requires c κs = search needs
 
 returns-4 : tie.Need-returns-4
 unfolding checksAt
@@ -89,19 +65,6 @@ returns-4 c = let a = c .before .before .before .before .before .args in
 
 pub judge-here-spec : {M : Type 1} → statement M
 judge-here-spec =
-    tie.close
-    (tie.spec
-    is-closed-requires
-    accepted-requires
-    check-requires
-    returns
-    is-framed-requires
-    number-at-requires
-    judge7-requires
-    returns-2
-    has-room-requires
-    judge-requires
-    check-requires-2
-    returns-3
-    refused-requires
-    returns-4)
+    tie.close (tie.spec (λ c κs. search needs) (λ c κs. search needs) (λ c κs. search needs) returns
+    (λ c κs. search needs) (λ c κs. search needs) judge7-requires returns-2 (λ c κs. search needs)
+    judge-requires (λ c κs. search needs) returns-3 (λ c κs. search needs) returns-4)

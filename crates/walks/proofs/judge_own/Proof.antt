@@ -24,15 +24,6 @@ same-own AnyData k s x at n other = rw (ne-eqb n 7 other)
 same-own DualPolarisation (inl e) s x at n other = absurd (omega (arith, e))
 same-own DualPolarisation (inr e) s x at n other = absurd (omega (arith, e))
 
-judge-requires : tie.Need-judge-requires
-judge-requires c κs = search needs
-
-enum-told : tie.Need-enum-told
-enum-told c = search needs
-
-judge-requires-2 : tie.Need-judge-requires-2
-judge-requires-2 c κs = search needs
-
 returns : tie.Need-returns
 returns c = let s = c .before .before .before in
     rw (sym (same-own (s .args .format) (c .before .match .keys1) (now (s .args .s)) (s .args .x) (s .args .at) (s .args .n) (s .pre .1))) (c .judge .ensures)
@@ -41,4 +32,5 @@ returns-2 : tie.Need-returns-2
 returns-2 c = rw (c .before .enum-told .given .1) (c .judge2 .ensures)
 
 pub judge-own-spec : {M : Type 1} → statement M
-judge-own-spec = tie.close (tie.spec judge-requires enum-told judge-requires-2 returns returns-2)
+judge-own-spec =
+    tie.close (tie.spec (λ c κs. search needs) (λ c. search needs) (λ c κs. search needs) returns returns-2)

@@ -16,9 +16,6 @@ use borrow.Author.Needs.{needs}
 use Rattle.walks.proofs.one_step.Statement.{statement}
 use Rattle.walks.proofs.one_step.Tie as tie
 
-context-in-requires : tie.Need-context-in-requires
-context-in-requires c κs = search needs
-
 judge-here-requires : tie.Need-judge-here-requires
 judge-here-requires c κs = rw (c .context-in .ensures) (let s : tie.Start = search in (s .pre .end-in, s .pre .points-in))
 
@@ -27,24 +24,9 @@ judged : (c : tie.After-judge-here) → let s = c .before .before .before in
     c .judge-here .result ≡ firstFault (checksAt (ownOf (s .args .format)) (now (s .args .s)) (s .args .end) (contextIn (s .args .st)) (s .args .st .at))
 judged c = rw (sym (c .before .context-in .ensures)) (c .judge-here .ensures)
 
-enum-known-refusal : tie.Need-enum-known-refusal
-enum-known-refusal c = search needs
-
-enum-told : tie.Need-enum-told
-enum-told c = search needs
-
 returns : tie.Need-returns
 returns c = let a = c .before .before .before .before .before .before .args in
     sym (step-done (ownOf (a .format)) (now (a .s)) (a .end) (a .st) (sym (judged (c .before .before .before)) ∙ c .before .enum-told .given .1) (c .if1 .taken))
-
-number-at-requires : tie.Need-number-at-requires
-number-at-requires c κs = search needs
-
-length-at-requires : tie.Need-length-at-requires
-length-at-requires c κs = search needs
-
-place-requires : tie.Need-place-requires
-place-requires c κs = search needs
 
 passed-requires : tie.Need-passed-requires
 unfolding lengthAt
@@ -72,16 +54,6 @@ returns-3 c = let a = c .before .before .before .before .before .before .before 
 
 pub one-step-spec : {M : Type 1} → statement M
 one-step-spec =
-    tie.close
-    (tie.spec
-    context-in-requires
-    judge-here-requires
-    enum-known-refusal
-    enum-told
-    returns
-    number-at-requires
-    length-at-requires
-    place-requires
-    passed-requires
-    returns-2
+    tie.close (tie.spec (λ c κs. search needs) judge-here-requires (λ c. search needs) (λ c. search needs)
+    returns (λ c κs. search needs) (λ c κs. search needs) (λ c κs. search needs) passed-requires returns-2
     returns-3)

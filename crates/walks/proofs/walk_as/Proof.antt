@@ -11,42 +11,21 @@ use Rattle.walks.specs.declared.Walked.the-variants.{Refused}
 use Rattle.walks.proofs.walk_as.Statement.{statement}
 use Rattle.walks.proofs.walk_as.Tie as tie
 
-refuse-requires : tie.Need-refuse-requires
-refuse-requires c κs = search needs
-
 returns : tie.Need-returns
 unfolding verdictBy sized answerFor
 returns c = let s : tie.Start = search in
     rw (lt-leb 20 (length (now (s .args .s))) (c .before .if1 .taken)) (ap Refused (c .refuse .ensures))
-
-refuse-requires-2 : tie.Need-refuse-requires-2
-refuse-requires-2 c κs = search needs
 
 returns-2 : tie.Need-returns-2
 unfolding verdictBy sized answerFor
 returns-2 c = let s : tie.Start = search in
     rw (lt-leb (length (now (s .args .s))) 8388608 (c .before .if2 .taken), and-false) (ap Refused (c .refuse2 .ensures))
 
-fields0-requires : tie.Need-fields0-requires
-fields0-requires c κs = search needs
-
-sub-walk-to : tie.Need-sub-walk-to
-sub-walk-to c = search needs
-
-walk-to-requires : tie.Need-walk-to-requires
-walk-to-requires c κs = search needs
-
-ended-as-requires : tie.Need-ended-as-requires
-ended-as-requires c κs = search needs
-
 returns-3 : tie.Need-returns-3
 unfolding verdictBy sized
 returns-3 c = let s : tie.Start = search in
     let n = length (now (s .args .s)) in
     rw (le-leb 20 n (c .before .before .before .before .before .if1 .left), le-leb n 8388608 (c .before .before .before .before .if2 .left), sym (c .before .before .before .fields0 .ensures) ∙ c .before .before .if3 .taken) (c .ended-as .ensures ∙ c .before .walk-to .ensures)
-
-refuse-requires-3 : tie.Need-refuse-requires-3
-refuse-requires-3 c κs = search needs
 
 returns-4 : tie.Need-returns-4
 unfolding verdictBy sized answerFor
@@ -56,5 +35,6 @@ returns-4 c = let s : tie.Start = search in
 
 pub walk-as-spec : {M : Type 1} → statement M
 walk-as-spec =
-    tie.close
-    (tie.spec refuse-requires returns refuse-requires-2 returns-2 fields0-requires sub-walk-to walk-to-requires ended-as-requires returns-3 refuse-requires-3 returns-4)
+    tie.close (tie.spec (λ c κs. search needs) returns (λ c κs. search needs) returns-2 (λ c κs. search needs)
+    (λ c. search needs) (λ c κs. search needs) (λ c κs. search needs) returns-3 (λ c κs. search needs)
+    returns-4)

@@ -22,25 +22,13 @@ loop-holds c = along-start _ _ _ _ (c .before .pre .0) (c .before .pre .1)
 one-step-requires : tie.Need-one-step-requires Inv-loop μ-loop
 one-step-requires c κs = c .loop .inv .sound
 
-enum-told : tie.Need-enum-told Inv-loop μ-loop
-enum-told c = search needs
-
 returns : tie.Need-returns Inv-loop μ-loop
 unfolding endedAs
 returns c = let i = c .before .before .before .loop in along-done _ (few-of (c .before .before .before .before .before .args .format)) _ _ _ _ _ (i .inv) (sym (c .before .before .one-step .ensures) ∙ c .enum-told .given .1)
 
-enum-known-refusal : tie.Need-enum-known-refusal Inv-loop μ-loop
-enum-known-refusal c = search needs
-
 returns-2 : tie.Need-returns-2 Inv-loop μ-loop
 unfolding endedAs
 returns-2 c = let i = c .before .before .before .before .loop in along-refused _ (few-of (c .before .before .before .before .before .before .args .format)) _ _ _ _ _ (i .inv) _ (sym (c .before .before .before .one-step .ensures) ∙ c .before .refusal .given .1)
-
-enum-known-next : tie.Need-enum-known-next Inv-loop μ-loop
-enum-known-next c = search needs
-
-chosen-after-requires : tie.Need-chosen-after-requires Inv-loop μ-loop
-chosen-after-requires c κs = search needs
 
 loop-less : tie.Need-loop-less Inv-loop μ-loop
 loop-less c = let i = c .before .before .before .before .before .loop in
@@ -54,17 +42,5 @@ loop-again c = let i = c .before .before .before .before .before .loop in
 
 pub walk-to-spec : {M : Type 1} → statement M
 walk-to-spec =
-    tie.close
-    (tie.spec
-    Inv-loop
-    μ-loop
-    loop-holds
-    one-step-requires
-    enum-told
-    returns
-    enum-known-refusal
-    returns-2
-    enum-known-next
-    chosen-after-requires
-    loop-less
-    loop-again)
+    tie.close (tie.spec Inv-loop μ-loop loop-holds one-step-requires (λ c. search needs) returns
+    (λ c. search needs) returns-2 (λ c. search needs) (λ c κs. search needs) loop-less loop-again)
