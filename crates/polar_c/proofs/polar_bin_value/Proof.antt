@@ -1,19 +1,22 @@
--- `polar_bin_value` meets its contract: the answer told is that of bin value.
+-- The words put are those of bin value's answer.
 use mathlib.Core.Path.{sym}
+use Rattle.c_words.proofs.Fits.{bin-fits}
 use borrow.Author.Needs.{needs}
 use Rattle.polar_c.proofs.polar_bin_value.Statement.{statement}
 use Rattle.polar_c.proofs.polar_bin_value.Tie as tie
 
-bin-value-requires : tie.Need-bin-value-requires
-bin-value-requires c κs = search needs
-
-tell-bin-requires : tie.Need-tell-bin-requires
-tell-bin-requires c κs = search needs
+put-bin-requires : tie.Need-put-bin-requires
+put-bin-requires c κs =
+    let s : tie.Start = search in
+    let k : tie.After-bin-value = search in
+    rw (k .bin-value .ensures .answer) (bin-fits (s .args .file .now) (s .args .cut) (s .args .ray) (s .args .bin))
 
 returns : tie.Need-returns
 returns c =
-    let e = sym (c .before .before .before .bin-value .ensures .answer) in
-    record { returned = rw e (c .tell-bin .ensures .0); held = rw e (c .tell-bin .ensures .1 .0); told = rw e (c .tell-bin .ensures .1 .1) }
+    let k : tie.After-bin-value = search in
+    let p = k .bin-value .ensures in
+    let e = sym (p .answer) in
+    record { returned = rw e (c .put-bin .ensures .0); held = rw e (c .put-bin .ensures .1 .0); answered = rw e (c .put-bin .ensures .1 .1) }
 
 pub polar-bin-value-spec : {M : Type 1} → statement M
-polar-bin-value-spec = tie.close (tie.spec bin-value-requires tell-bin-requires returns)
+polar-bin-value-spec = tie.close (tie.spec (λ c κs. search needs) put-bin-requires returns)

@@ -1,19 +1,21 @@
--- `polar_dual_open` meets its contract: the answer told is that of open.
+-- The words put are those of open's answer.
 use mathlib.Core.Path.{sym}
+use Rattle.c_words.proofs.Fits.{dual-open-fits}
 use borrow.Author.Needs.{needs}
 use Rattle.polar_c.proofs.polar_dual_open.Statement.{statement}
 use Rattle.polar_c.proofs.polar_dual_open.Tie as tie
 
-open-requires : tie.Need-open-requires
-open-requires c κs = search needs
-
-tell-dual-open-requires : tie.Need-tell-dual-open-requires
-tell-dual-open-requires c κs = search needs
+put-dual-open-requires : tie.Need-put-dual-open-requires
+put-dual-open-requires c κs =
+    let s : tie.Start = search in
+    let k : tie.After-open = search in
+    rw (k .open .ensures) (dual-open-fits (s .args .file .now))
 
 returns : tie.Need-returns
 returns c =
-    let e = sym (c .before .before .open .ensures) in
-    record { returned = rw e (c .tell-dual-open .ensures .0); told = rw e (c .tell-dual-open .ensures .1) }
+    let k : tie.After-open = search in
+    let e = sym (k .open .ensures) in
+    record { returned = rw e (c .put-dual-open .ensures .0); answered = rw e (c .put-dual-open .ensures .1) }
 
 pub polar-dual-open-spec : {M : Type 1} → statement M
-polar-dual-open-spec = tie.close (tie.spec open-requires tell-dual-open-requires returns)
+polar-dual-open-spec = tie.close (tie.spec (λ c κs. search needs) put-dual-open-requires returns)

@@ -1,24 +1,22 @@
--- `polar_house_stretches` meets its contract: the answer told is that of the house form, and the words are left as it left them.
+-- The words put are those of the house form's answer, and the list is left as it left it.
 use mathlib.Core.Path.{sym}
+use Rattle.c_words.proofs.Fits.{stretches-fits}
 use borrow.Author.Needs.{needs}
 use Rattle.polar_c.proofs.polar_house_stretches.Statement.{statement}
 use Rattle.polar_c.proofs.polar_house_stretches.Tie as tie
 
-house-stretches-requires : tie.Need-house-stretches-requires
-house-stretches-requires c κs = search needs
-
-tell-stretches-requires : tie.Need-tell-stretches-requires
-tell-stretches-requires c κs = search needs
-
-same-length : tie.Need-same-length
-same-length c = search needs
+put-stretches-requires : tie.Need-put-stretches-requires
+put-stretches-requires c κs =
+    let s : tie.Start = search in
+    let k : tie.After-house-stretches = search in
+    rw (k .house-stretches .ensures .answer) (stretches-fits (s .args .file .now) (s .args .cut) _ (s .args .ray) (s .args .bin) _)
 
 returns : tie.Need-returns
 returns c =
-    let p = c .before .before .before .before .house-stretches .ensures in
+    let k : tie.After-house-stretches = search in
+    let p = k .house-stretches .ensures in
     let e = sym (p .answer) in
-    record { returned = rw e (c .tell-stretches .ensures .0); held = rw e (p .after); told = rw e (c .tell-stretches .ensures .1) }
+    record { returned = rw e (c .put-stretches .ensures .0); held = rw e (p .after); answered = rw e (c .put-stretches .ensures .1) }
 
 pub polar-house-stretches-spec : {M : Type 1} → statement M
-polar-house-stretches-spec =
-    tie.close (tie.spec house-stretches-requires tell-stretches-requires same-length returns)
+polar-house-stretches-spec = tie.close (tie.spec (λ c κs. search needs) put-stretches-requires (λ c. search needs) returns)

@@ -1,24 +1,22 @@
--- `polar_ray_levels` meets its contract: the answer told is that of ray levels, and the levels are left as it left them.
+-- What is returned is the call's answer, and what was lent is left as the call left it.
 use mathlib.Core.Path.{sym}
+use Rattle.c_words.proofs.Fits.{ray-fits}
 use borrow.Author.Needs.{needs}
 use Rattle.polar_c.proofs.polar_ray_levels.Statement.{statement}
 use Rattle.polar_c.proofs.polar_ray_levels.Tie as tie
 
-ray-levels-requires : tie.Need-ray-levels-requires
-ray-levels-requires c κs = search needs
-
-tell-ray-requires : tie.Need-tell-ray-requires
-tell-ray-requires c κs = search needs
-
-same-length : tie.Need-same-length
-same-length c = search needs
+ray-return-requires : tie.Need-ray-return-requires
+ray-return-requires c κs =
+    let s : tie.Start = search in
+    let k : tie.After-ray-levels = search in
+    rw (k .ray-levels .ensures .answer) (ray-fits (s .args .file .now) (s .args .cut) (s .args .ray) _)
 
 returns : tie.Need-returns
 returns c =
-    let p = c .before .before .before .before .ray-levels .ensures in
+    let k : tie.After-ray-levels = search in
+    let p = k .ray-levels .ensures in
     let e = sym (p .answer) in
-    record { returned = rw e (c .tell-ray .ensures .0); held = rw e (p .after); told = rw e (c .tell-ray .ensures .1) }
+    record { returned = rw e (c .ray-return .ensures); held = rw e (p .after) }
 
 pub polar-ray-levels-spec : {M : Type 1} → statement M
-polar-ray-levels-spec =
-    tie.close (tie.spec ray-levels-requires tell-ray-requires same-length returns)
+polar-ray-levels-spec = tie.close (tie.spec (λ c κs. search needs) ray-return-requires (λ c. search needs) returns)

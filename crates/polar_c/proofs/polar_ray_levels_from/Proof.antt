@@ -1,24 +1,22 @@
--- `polar_ray_levels_from` meets its contract: the answer told is that of ray levels by a record, and the levels are left as it left them.
+-- What is returned is the call's answer, and what was lent is left as the call left it.
 use mathlib.Core.Path.{sym}
+use Rattle.c_words.proofs.Fits.{from-fits}
 use borrow.Author.Needs.{needs}
 use Rattle.polar_c.proofs.polar_ray_levels_from.Statement.{statement}
 use Rattle.polar_c.proofs.polar_ray_levels_from.Tie as tie
 
-ray-levels-from-requires : tie.Need-ray-levels-from-requires
-ray-levels-from-requires c κs = search needs
-
-tell-ray-requires : tie.Need-tell-ray-requires
-tell-ray-requires c κs = search needs
-
-same-length : tie.Need-same-length
-same-length c = search needs
+ray-return-requires : tie.Need-ray-return-requires
+ray-return-requires c κs =
+    let s : tie.Start = search in
+    let k : tie.After-ray-levels-from = search in
+    rw (k .ray-levels-from .ensures .answer) (from-fits (s .args .file .now) (s .args .cut) (s .args .ray) _ _)
 
 returns : tie.Need-returns
 returns c =
-    let p = c .before .before .before .before .ray-levels-from .ensures in
+    let k : tie.After-ray-levels-from = search in
+    let p = k .ray-levels-from .ensures in
     let e = sym (p .answer) in
-    record { returned = rw e (c .tell-ray .ensures .0); held = rw e (p .after); told = rw e (c .tell-ray .ensures .1) }
+    record { returned = rw e (c .ray-return .ensures); held = rw e (p .after) }
 
 pub polar-ray-levels-from-spec : {M : Type 1} → statement M
-polar-ray-levels-from-spec =
-    tie.close (tie.spec ray-levels-from-requires tell-ray-requires same-length returns)
+polar-ray-levels-from-spec = tie.close (tie.spec (λ c κs. search needs) ray-return-requires (λ c. search needs) returns)

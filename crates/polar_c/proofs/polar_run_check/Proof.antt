@@ -1,28 +1,17 @@
--- `polar_run_check` meets its contract: each answer of run check goes out by its definition.
+-- What is returned is run check's answer under V as it was handed in.
 use mathlib.Core.Path.{sym, _∙_}
+use Rattle.c_words.proofs.Arguments.{check-narrow}
 use borrow.Author.Needs.{needs}
 use Rattle.polar_c.proofs.polar_run_check.Statement.{statement}
 use Rattle.polar_c.proofs.polar_run_check.Tie as tie
 
-run-check-requires : tie.Need-run-check-requires
-run-check-requires c κs = search needs
-
-enum-told : tie.Need-enum-told
-enum-told c = search needs
-
-enum-known-why : tie.Need-enum-known-why
-enum-known-why c = search needs
-
-check-number-requires : tie.Need-check-number-requires
-check-number-requires c κs = search needs
-
 returns : tie.Need-returns
-returns c = record { returned = rw (sym (c .before .before .run-check .ensures .answered) ∙ c .enum-told .given .1) }
-
-returns-2 : tie.Need-returns-2
-returns-2 c = record { returned = rw (sym (c .before .before .before .before .run-check .ensures .answered) ∙ c .before .before .why .given .1) (c .check-number .ensures) }
+returns c =
+    let s : tie.Start = search in
+    let n : tie.After-narrow-v = search in
+    let k : tie.After-run-check = search in
+    let e = rw (n .narrow-v .ensures) at (k .run-check .ensures .answered) in
+    record { returned = rw (sym (e ∙ check-narrow (s .args .v) (s .args .n) (s .args .octets .now))) (c .check-return .ensures) }
 
 pub polar-run-check-spec : {M : Type 1} → statement M
-polar-run-check-spec =
-    tie.close
-    (tie.spec run-check-requires enum-told enum-known-why check-number-requires returns returns-2)
+polar-run-check-spec = tie.close (tie.spec (λ c κs. search needs) (λ c κs. search needs) (λ c κs. search needs) returns)

@@ -1,23 +1,22 @@
--- `polar_run_read` meets its contract: the answer told is that of run read, and the lent octets are left as it left them.
-use mathlib.Core.Path.{sym}
+-- What is returned is run read's answer under V as it was handed in, and the lent levels are left so.
+use mathlib.Core.Path.{sym, _∙_}
+use lib.ListN.{length}
+use Rattle.c_words.proofs.Arguments.{read-narrow, out-narrow}
 use borrow.Author.Needs.{needs}
 use Rattle.polar_c.proofs.polar_run_read.Statement.{statement}
 use Rattle.polar_c.proofs.polar_run_read.Tie as tie
 
-run-read-requires : tie.Need-run-read-requires
-run-read-requires c κs = search needs
-
-tell-read-requires : tie.Need-tell-read-requires
-tell-read-requires c κs = search needs
-
-same-length : tie.Need-same-length
-same-length c = search needs
-
 returns : tie.Need-returns
 returns c =
-    let p = c .before .before .before .before .run-read .ensures in
-    let e = sym (p .answered) in
-    record { returned = rw e (c .tell-read .ensures .0); held = rw e (p .held); told = rw e (c .tell-read .ensures .1) }
+    let s : tie.Start = search in
+    let n : tie.After-narrow-v = search in
+    let k : tie.After-run-read = search in
+    let v = s .args .v in
+    let octets = s .args .octets .now in
+    let lent = s .args .out .now in
+    let e = rw (n .narrow-v .ensures) at (k .run-read .ensures .answered) ∙ read-narrow v (s .args .n) octets (length lent) in
+    let h = rw (e, n .narrow-v .ensures) at (k .run-read .ensures .held) ∙ out-narrow v (s .args .n) octets lent in
+    record { returned = rw (sym e) (c .read-return .ensures); held = h }
 
 pub polar-run-read-spec : {M : Type 1} → statement M
-polar-run-read-spec = tie.close (tie.spec run-read-requires tell-read-requires same-length returns)
+polar-run-read-spec = tie.close (tie.spec (λ c κs. search needs) (λ c κs. search needs) (λ c κs. search needs) (λ c. search needs) returns)

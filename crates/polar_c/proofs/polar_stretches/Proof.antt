@@ -1,28 +1,35 @@
--- `polar_stretches` meets its contract: the answer told is that of stretches, and the words are left as it left them.
-use mir.Syntax.{w32}
+-- The words put are those of stretches' answer at the threshold as it was handed in, and the list is left so.
+use mir.Syntax.{w32, w64}
 use mir.ValLaws.{toZ-ofZ}
-use mathlib.Core.Path.{sym}
+use mathlib.Core.Path.{sym, _∙_}
+use Rattle.c_words.proofs.Fits.{stretches-fits}
+use lib.ListN.{length}
+use Rattle.c_words.specs.Arguments.{narrowThreshold}
+use Rattle.c_words.proofs.Arguments.{narrow-fits, stretch-narrow, words-narrow}
 use borrow.Author.Needs.{needs}
 use Rattle.polar_c.proofs.polar_stretches.Statement.{statement}
 use Rattle.polar_c.proofs.polar_stretches.Tie as tie
 
-stretches-requires : tie.Need-stretches-requires
-stretches-requires c κs = search needs
-
-tell-stretches-requires : tie.Need-tell-stretches-requires
-tell-stretches-requires c κs = search needs
-
-same-length : tie.Need-same-length
-same-length c = search needs
+put-stretches-requires : tie.Need-put-stretches-requires
+put-stretches-requires c κs =
+    let s : tie.Start = search in
+    let k : tie.After-stretches = search in
+    rw (k .stretches .ensures .answer) (stretches-fits (s .args .file .now) (s .args .cut) _ (s .args .ray) (s .args .bin) _)
 
 returns : tie.Need-returns
 returns c =
-    let a = c .before .before .before .before .before .before .before .before .args in
-    let back = toZ-ofZ w32 (a .t) (c .before .before .before .before .before .before .before .before .fits .t) in
-    let p = c .before .before .before .before .stretches .ensures in
-    let e = sym (rw back at (p .answer)) in
-    record { returned = rw e (c .tell-stretches .ensures .0); held = rw e (rw back at (p .after)); told = rw e (c .tell-stretches .ensures .1) }
+    let s : tie.Start = search in
+    let n : tie.After-narrow-threshold = search in
+    let k : tie.After-stretches = search in
+    let a = s .args in
+    let t = a .t in
+    let p = k .stretches .ensures in
+    let narrow = rw (toZ-ofZ w64 t (s .fits .t)) at (n .narrow-threshold .ensures) in
+    let back = toZ-ofZ w32 (narrowThreshold t) (narrow-fits t) in
+    let words = a .words .now in
+    let e = rw (narrow, back) at (p .answer) ∙ stretch-narrow (a .file .now) (a .cut) t (a .ray) (a .bin) (length words) in
+    let h = rw (narrow, back, e) at (p .after) ∙ words-narrow (a .file .now) (a .cut) t (a .ray) (a .bin) words in
+    record { returned = rw (sym e) (c .put-stretches .ensures .0); held = h; answered = rw (sym e) (c .put-stretches .ensures .1) }
 
 pub polar-stretches-spec : {M : Type 1} → statement M
-polar-stretches-spec =
-    tie.close (tie.spec stretches-requires tell-stretches-requires same-length returns)
+polar-stretches-spec = tie.close (tie.spec (λ c κs. search needs) (λ c κs. search needs) put-stretches-requires (λ c. search needs) returns)

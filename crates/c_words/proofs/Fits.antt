@@ -1,0 +1,195 @@
+-- What each call returns fits one word: the place of a refusal lies in the file, and a file that is longer than 8,388,608 octets is refused at place 0.
+use Prim.Native.Nat.{ℕ, _≤_, _<_}
+use mathlib.Core.Path.{_≡_, refl, sym}
+use mathlib.Core.List.{List}
+use mathlib.Core.Bool.{Bool, true, false, cond, _&&_}
+use native.Mathlib.Omega.{arith}
+use borrow.Author.Tests.{ltb-true}
+use lib.Dec.{ltb}
+use lib.IntN.{ℤ}
+use lib.ListN.{length, getD}
+use Rattle.values.specs.Reading.{readingOf}
+use Rattle.values.specs.declared.Reading.{Reading}
+use Rattle.values.specs.declared.Reading.the-variants as G
+use Rattle.index.specs.declared.RayRecord.{RayRecord}
+use Rattle.scaled.specs.declared.Cell.{Cell}
+use Rattle.scaled.specs.declared.Cell.the-variants as L
+use Rattle.stretches.specs.Stretch.{perEntry}
+use Rattle.stretches.specs.Call.{answerOf, rightT, rightPoint}
+use Rattle.sections.specs.Refusal.{refuse}
+use Rattle.sections.specs.Parts.{binsIn, raysIn}
+use Rattle.sections.specs.Checks.{FormatChecks}
+use Rattle.sections.specs.Refused.{RefusedBy, size, head, section}
+use Rattle.sections.specs.Verdict.{Verdict, accepted, refused, verdictBy, noCut}
+use Rattle.sections.specs.declared.Cut.{Cut}
+use Rattle.sections.specs.declared.Refusal.{Refusal}
+use Rattle.sections.specs.declared.Why.the-variants.{Argument, Room, Record}
+use Rattle.sections.proofs.Exact.{refused-only}
+use Rattle.sections.proofs.Inside.{OwnAt, refused-inside}
+use Rattle.base_format.specs.Parts.{productIn, levelIn}
+use Rattle.base_format.specs.Checks.{baseChecks, anyDataChecks}
+use Rattle.base_format.specs.Verdict.{verdict, anyDataVerdict}
+use Rattle.base_format.proofs.Says.{own-at, any-own-at}
+use Rattle.base_format.proofs.Exact.{any-exact}
+use Rattle.base_format.proofs.GoodCuts.{any-cut-of}
+use Rattle.dual_format.specs.Parts.{toldIn}
+use Rattle.dual_format.specs.Checks.{dualChecks}
+use Rattle.dual_format.specs.Verdict.{verdict as dualVerdict}
+use Rattle.dual_format.proofs.Says.{own-at as dual-own-at}
+use Rattle.cuts.specs.Bins.{stretchesIn}
+use Rattle.cuts.specs.Records.{usableIn}
+use Rattle.calls.specs.Cuts.{onFile, onCut}
+use Rattle.calls.specs.declared.RayAnswer.the-variants as R
+use Rattle.calls.specs.declared.BinAnswer.{BinAnswer}
+use Rattle.calls.specs.declared.BinAnswer.the-variants as B
+use Rattle.polar.specs.Opening.{summaryOf, openAnswer, infoOf, cutAnswer}
+use Rattle.polar.specs.Rays.{rayOn, rayAnswer, binOf, binOn, binAnswer}
+use Rattle.polar.specs.Stretching.{stretchesOn, stretchAnswer}
+use Rattle.polar.specs.declared.Opened.the-variants as O
+use Rattle.polar.specs.declared.CutAnswer.the-variants as C
+use Rattle.polar.specs.declared.StretchAnswer.{StretchAnswer}
+use Rattle.polar.specs.declared.StretchAnswer.the-variants as S
+use Rattle.records.specs.Records.{buildOn, buildAnswer, fromOn, fromAnswer}
+use Rattle.dualpol.specs.Answers as D
+use Rattle.dualpol.specs.declared.DualOpened.the-variants as DO
+use Rattle.dualpol.specs.declared.DualCut.the-variants as DC
+use Rattle.c_words.specs.Word.{wordOf, InWord}
+use Rattle.c_words.specs.Files.{openReturn, cutReturn, rayReturn, binReturn, stretchReturn}
+use Rattle.c_words.specs.Dual.{dualOpenReturn, dualCutReturn}
+use Rattle.c_words.proofs.Word.{in-word}
+
+-- ── a call of any format, by what it returns for its answer ──
+
+module _ (own : FormatChecks) (own-at′ : OwnAt own) (s : List ℕ) where
+  low : (r : Refusal) → r .place ≤ length s → RefusedBy own s r → r .place ≤ 8388608
+  unfolding refuse
+  low r h (size k) = omega arith
+  low r h (head k e) = omega arith
+  low r h (section k e passed fails) = omega arith
+
+  module _ {A : Type 0} (bad : Refusal → A) (returned : A → ℕ) (is : (r : Refusal) → returned (bad r) ≡ wordOf r) where
+    bad-fits : (r : Refusal) → verdictBy own s ≡ refused r → InWord (returned (bad r))
+    bad-fits r e =
+        let h = low r (refused-inside own own-at′ s r e) (refused-only own s r e) in
+        rw (is r) (in-word r (omega arith))
+
+    pub file-fits : (some : ℕ → Cut → A) → ((n : ℕ) (c : Cut) → InWord (returned (some n c))) → InWord (returned (onFile bad some (verdictBy own s)))
+    unfolding onFile
+    file-fits some fits = go (verdictBy own s) refl
+      where
+        go : (v : Verdict) → verdictBy own s ≡ v → InWord (returned (onFile bad some v))
+        go (accepted cs) e = fits (length cs) (getD cs 0 noCut)
+        go (refused r) e = bad-fits r e
+
+    pub cut-fits : (some : Cut → A) (i : ℕ) → ((cs : List Cut) → verdictBy own s ≡ accepted cs → i < length cs → InWord (returned (some (getD cs i noCut))))
+        → InWord (returned (onCut bad some i (verdictBy own s)))
+    unfolding onCut refuse
+    cut-fits some i fits = go (verdictBy own s) refl
+      where
+        split : (cs : List Cut) → verdictBy own s ≡ accepted cs → (b : Bool) → ltb i (length cs) ≡ b → InWord (returned (cond b (some (getD cs i noCut)) (bad (refuse Argument 0))))
+        split cs e true p = fits cs e (ltb-true _ _ p)
+        split cs e false p = rw (is (refuse Argument 0)) (omega arith)
+
+        go : (v : Verdict) → verdictBy own s ≡ v → InWord (returned (onCut bad some i v))
+        go (accepted cs) e = split cs e (ltb i (length cs)) refl
+        go (refused r) e = bad-fits r e
+
+-- ── of a file ──
+
+pub open-fits : (s : List ℕ) → InWord (openReturn (openAnswer s))
+unfolding openAnswer
+open-fits s = file-fits baseChecks own-at s O.Refused openReturn (λ r. refl) (λ n c. O.File (summaryOf s n c)) (λ n c. omega arith)
+
+pub cut-info-fits : (s : List ℕ) (i : ℕ) → InWord (cutReturn (cutAnswer s i))
+unfolding cutAnswer
+cut-info-fits s i = cut-fits baseChecks own-at s C.Refused cutReturn (λ r. refl) (λ c. C.Cut (infoOf s c)) i (λ cs e lt. omega arith)
+
+-- 10, 11 or an answer
+ray-on : (a b : Bool) → InWord (rayReturn (cond a (cond b (R.Refused (refuse Room 0)) R.Written) (R.Refused (refuse Argument 0))))
+unfolding refuse
+ray-on true true = omega arith
+ray-on true false = omega arith
+ray-on false b = omega arith
+
+pub ray-fits : (s : List ℕ) (i ray room : ℕ) → InWord (rayReturn (rayAnswer s i ray room))
+unfolding rayAnswer rayOn
+ray-fits s i ray room = cut-fits baseChecks own-at s R.Refused rayReturn (λ r. refl) (rayOn s ray room) i (λ cs e lt.
+    let c = getD cs i noCut in ray-on (ltb ray (raysIn s c)) (ltb room (binsIn s c)))
+
+bin-on : (a : Bool) (x : BinAnswer) → binReturn x ≡ 0 → InWord (binReturn (cond a x (B.Refused (refuse Argument 0))))
+unfolding refuse
+bin-on true x e = rw e (omega arith)
+bin-on false x e = omega arith
+
+reading-returned : (x : Reading) → binReturn (binOf x) ≡ 0
+unfolding binOf
+reading-returned G.Missing = refl
+reading-returned (G.Number z) = refl
+
+pub bin-fits : (s : List ℕ) (i ray bin : ℕ) → InWord (binReturn (binAnswer s i ray bin))
+unfolding binAnswer binOn
+bin-fits s i ray bin = cut-fits baseChecks own-at s B.Refused binReturn (λ r. refl) (binOn s ray bin) i (λ cs e lt.
+    let c = getD cs i noCut in bin-on (ltb ray (raysIn s c) && ltb bin (binsIn s c)) _ (reading-returned (readingOf (productIn s c) (levelIn s c ray bin))))
+
+stretches-on : (a b : Bool) (x : StretchAnswer) → stretchReturn x ≡ 0 → InWord (stretchReturn (cond a (cond b (S.Refused (refuse Room 0)) x) (S.Refused (refuse Argument 0))))
+unfolding refuse
+stretches-on true true x e = omega arith
+stretches-on true false x e = rw e (omega arith)
+stretches-on false b x e = omega arith
+
+pub stretches-fits : (s : List ℕ) (i : ℕ) (t : ℤ) (ray bin room : ℕ) → InWord (stretchReturn (stretchAnswer s i t ray bin room))
+unfolding stretchAnswer stretchesOn
+stretches-fits s i t ray bin room =
+    cut-fits baseChecks own-at s S.Refused stretchReturn (λ r. refl) (stretchesOn s t ray bin room) i (λ cs e lt.
+    let c = getD cs i noCut in
+    stretches-on (rightT t && rightPoint (binsIn s c) (raysIn s c) ray bin) (ltb room perEntry) (S.Listed (answerOf (raysIn s c) room (stretchesIn s c t ray bin))) refl)
+
+-- ── by a record ──
+
+build-on : (b : Bool) → InWord (rayReturn (cond b (R.Refused (refuse Room 0)) R.Written))
+unfolding refuse
+build-on true = omega arith
+build-on false = omega arith
+
+pub build-fits : (s : List ℕ) (i room : ℕ) → InWord (rayReturn (buildAnswer s i room))
+unfolding buildAnswer buildOn
+build-fits s i room = cut-fits baseChecks own-at s R.Refused rayReturn (λ r. refl) (buildOn s room) i (λ cs e lt. build-on (ltb room (raysIn s (getD cs i noCut))))
+
+from-on : (a b d : Bool) (at : ℕ) → at ≤ 8388608
+    → InWord (rayReturn (cond a (cond b (R.Refused (refuse Room 0)) (cond d R.Written (R.Refused (refuse Record at)))) (R.Refused (refuse Argument 0))))
+unfolding refuse
+from-on true true d at h = omega arith
+from-on true false true at h = omega arith
+from-on true false false at h = omega arith
+from-on false b d at h = omega arith
+
+-- section 7 of an accepted file's cut lies in the file
+pub from-fits : (s : List ℕ) (i ray : ℕ) (rec : RayRecord) (room : ℕ) → InWord (rayReturn (fromAnswer s i ray rec room))
+unfolding fromAnswer fromOn
+from-fits s i ray rec room =
+    cut-fits anyDataChecks any-own-at s R.Refused rayReturn (λ r. refl) (fromOn s ray rec room) i (λ cs e lt.
+    let file = any-exact .accepted-only s cs e in
+    let inside = any-cut-of s cs file i lt .data-inside in
+    let large = file .large in
+    let c = getD cs i noCut in
+    from-on (ltb ray (raysIn s c)) (ltb room (binsIn s c)) (usableIn s c rec) (c .section7) (omega arith))
+
+-- ── of a dual-polarisation file ──
+
+pub dual-open-fits : (s : List ℕ) → InWord (dualOpenReturn (D.openAnswer s))
+unfolding D.openAnswer
+dual-open-fits s = file-fits dualChecks dual-own-at s DO.Refused dualOpenReturn (λ r. refl) (λ n c. DO.File (D.summaryOf s n c)) (λ n c. omega arith)
+
+pub dual-cut-fits : (s : List ℕ) (i : ℕ) → InWord (dualCutReturn (D.cutAnswer s i))
+unfolding D.cutAnswer
+dual-cut-fits s i = cut-fits dualChecks dual-own-at s DC.Refused dualCutReturn (λ r. refl) _ i (λ cs e lt. omega arith)
+
+cell-returned : (x : Cell) → binReturn (D.binOf x) ≡ 0
+unfolding D.binOf
+cell-returned L.Missing = refl
+cell-returned (L.Value x) = refl
+
+pub dual-bin-fits : (s : List ℕ) (i ray bin : ℕ) → InWord (binReturn (D.binAnswer s i ray bin))
+unfolding D.binAnswer D.binOn
+dual-bin-fits s i ray bin = cut-fits dualChecks dual-own-at s B.Refused binReturn (λ r. refl) (D.binOn s ray bin) i (λ cs e lt.
+    let c = getD cs i noCut in bin-on (ltb ray (raysIn s c) && ltb bin (binsIn s c)) _ (cell-returned (toldIn s c ray bin)))

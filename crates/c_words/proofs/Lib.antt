@@ -1,0 +1,4 @@
+pub mod Word
+pub mod Fits
+pub mod Arguments
+pub mod Signed
