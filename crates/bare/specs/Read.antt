@@ -70,3 +70,8 @@ abbrev pub checkNumber : CheckRefusal → ℕ
 checkNumber C.V = 12
 checkNumber C.Argument = 10
 checkNumber C.Data = 8
+
+abbrev pub checkPlace : CheckRefusal → ℕ
+checkPlace C.V = 0
+checkPlace C.Argument = 0
+checkPlace C.Data = 0
