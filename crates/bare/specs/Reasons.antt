@@ -1,0 +1,23 @@
+-- Why the calls without a file refuse, in document 01's order: "Run read: 12, 10, 11, 8. Run write: 10, 11."
+use Prim.Native.Nat.{ℕ, _≤_, _<_}
+use mathlib.Core.List.{List}
+use lib.ListN.{length}
+use Rattle.runs.specs.Runs.{Exactly}
+use Rattle.packing.specs.Write.{greatest, packed}
+use Rattle.bare.specs.declared.ReadRefusal.{ReadRefusal}
+use Rattle.bare.specs.declared.ReadRefusal.the-variants as R
+use Rattle.bare.specs.declared.WriteRefusal.{WriteRefusal}
+use Rattle.bare.specs.declared.WriteRefusal.the-variants as W
+
+-- of octets s under V for n levels, with room for so many; run check has the same reasons, but for room
+pub data ReadReason (v n room : ℕ) (s : List ℕ) : ReadRefusal → Type 0 where
+  by-v : 253 < v → ReadReason v n room s R.V
+  by-argument : v ≤ 253 → 2097152 < n → ReadReason v n room s R.Argument
+  by-room : v ≤ 253 → n ≤ 2097152 → room < n → ReadReason v n room s R.Room
+  by-data : v ≤ 253 → n ≤ 2097152 → n ≤ room → (Exactly v n s → ⊥) → ReadReason v n room s R.Data
+
+-- of levels s, with room for so many octets
+pub data WriteReason (room : ℕ) (s : List ℕ) : WriteRefusal → Type 0 where
+  by-count : 2097152 < length s → WriteReason room s W.Argument
+  by-level : 252 < greatest s → WriteReason room s W.Argument
+  by-room : length s ≤ 2097152 → greatest s ≤ 252 → room < length (packed s) → WriteReason room s W.Room
