@@ -8,9 +8,9 @@
  * it may write overlaps nothing else that it is lent. Where a length is 0 the pointer before it is not followed and may
  * be null. Any number may be handed in. Cuts, rays and bins count from 0.
  *
- * Each call returns 0, or the number of a refusal (POLAR_FILE_SIZE and so on). `answer[0]`, or `place[0]`, is always
- * set: the refusal's place, and 0 where nothing is refused. All other words of an answer, and all other lent memory,
- * change only where nothing is refused, and no further than is said to be written.
+ * Each call returns 0, or a refusal in one word: POLAR_NUMBER has its number (POLAR_FILE_SIZE and so on), POLAR_PLACE
+ * its place. On a refusal nothing that was lent has changed; else it has changed no further than is said to be written.
+ * Arguments are judged as they are handed in: none is cut to fewer bits before it is.
  *
  * NO DATA IS NOT ZERO. Where there is no value a call leaves the value's place as it was. In cleared memory that reads
  * 0, which is a value: 0 dBZ, dry weather. So look at the mark before the value, each time; and fill the place with
@@ -35,9 +35,9 @@ extern "C" {
 #endif
 
 #define POLAR_VERSION_MAJOR 0
-#define POLAR_VERSION_MINOR 1
+#define POLAR_VERSION_MINOR 2
 #define POLAR_VERSION_PATCH 0
-#define POLAR_VERSION "0.1.0"
+#define POLAR_VERSION "0.2.0"
 
 /* The refusals: "Refusals". */
 #define POLAR_FILE_SIZE 1u      /* the lent file is under 20 or over 8,388,608 octets */
@@ -54,6 +54,10 @@ extern "C" {
 #define POLAR_V 12u             /* V is over 253 */
 #define POLAR_RECORD 13u        /* a record does not fit the data, or the data ends before the ray does */
 #define POLAR_UNREAD 14u        /* R infinite or not a number, a width other than 8 or 16, or a scan other than PPI */
+
+/* What a call returned: the number of its refusal, 0 where there is none, and the refusal's place in the file. */
+#define POLAR_NUMBER(returned) ((uint32_t)((uint64_t)(returned) & 255u))
+#define POLAR_PLACE(returned) ((uint64_t)(returned) >> 8)
 
 /* What a refusal's number means, in a plain sentence. Never null. */
 static inline const char *polar_refusal_text(uint32_t number)
@@ -135,11 +139,10 @@ static inline const char *polar_refusal_text(uint32_t number)
 #define POLAR_ENTRY_KIND 3
 #define POLAR_ENTRY_WORDS 4u
 
-/* The words of the answers, and how many they are. Word 0 is the place, in all of them. */
-enum { POLAR_PLACE = 0 };
-enum { POLAR_RUN_V = 1, POLAR_RUN_OCTETS, POLAR_RUN_WORDS };
+/* The words of the answers, and how many they are. */
+enum { POLAR_RUN_V, POLAR_RUN_OCTETS, POLAR_RUN_WORDS };
 enum {
-    POLAR_OPEN_PRODUCT = 1, /* of a dual-polarisation file: the parameter number */
+    POLAR_OPEN_PRODUCT, /* of a dual-polarisation file: the parameter number */
     POLAR_OPEN_YEAR,
     POLAR_OPEN_MONTH,
     POLAR_OPEN_DAY,
@@ -151,7 +154,7 @@ enum {
     POLAR_OPEN_WORDS
 };
 enum {
-    POLAR_CUT_BINS = 1,
+    POLAR_CUT_BINS,
     POLAR_CUT_RAYS,
     POLAR_CUT_LATITUDE,
     POLAR_CUT_LONGITUDE,
@@ -164,58 +167,56 @@ enum {
     POLAR_CUT_ELEVATION,
     POLAR_CUT_WORDS
 };
-enum { POLAR_BIN_MARK = 1, POLAR_BIN_WORDS };
-enum { POLAR_LIST_COUNT = 1, POLAR_LIST_NEXT_RAY, POLAR_LIST_NEXT_BIN, POLAR_LIST_WORDS };
+enum { POLAR_BIN_MARK, POLAR_BIN_WORDS };
+enum { POLAR_LIST_COUNT, POLAR_LIST_NEXT_RAY, POLAR_LIST_NEXT_BIN, POLAR_LIST_WORDS };
 
-/* ---- runs, without a file (place always 0): "Run-length rule" ---- */
+/* ---- runs, without a file (the place is always 0): "Run-length rule" ---- */
 
 /*
  * Run check: what polar_run_read would find in `octets` under V for n levels, with nothing lent.
  * Refusals, in this order: 12; 10 where n is over POLAR_MOST_LEVELS; 8.
  */
-uint32_t polar_run_check(const uint8_t *octets, size_t octets_len, uint8_t v, size_t n);
+uint64_t polar_run_check(const uint8_t *octets, size_t octets_len, uint64_t v, size_t n);
 
 /*
  * Run read: writes n levels at the front of `levels`, which has room for `room`.
  * Refusals, in this order: 12; 10 where n is over POLAR_MOST_LEVELS; 11 where room is under n; 8.
  */
-uint32_t polar_run_read(const uint8_t *octets, size_t octets_len, uint8_t v, size_t n, uint8_t *levels, size_t room,
-                        uint64_t place[1]);
+uint64_t polar_run_read(const uint8_t *octets, size_t octets_len, uint64_t v, size_t n, uint8_t *levels, size_t room);
 
 /*
  * Run write: writes the octets of `n` levels at the front of `octets`, which has room for `room`. Read back under the V
  * that it answers, they give the same levels.
- * answer: place, V, number of octets (POLAR_RUN_*).
+ * answer: V, number of octets (POLAR_RUN_*).
  * Refusals, in this order: 10 where n is over POLAR_MOST_LEVELS or a level over POLAR_MOST_LEVEL; 11 where room is
  * under the exact length.
  */
-uint32_t polar_run_write(const uint8_t *levels, size_t n, uint8_t *octets, size_t room, uint64_t answer[3]);
+uint64_t polar_run_write(const uint8_t *levels, size_t n, uint8_t *octets, size_t room, uint64_t answer[2]);
 
 /* ---- files: "Calls" ---- */
 
 /*
  * Open.
- * answer: place, product (1 reflectivity, 2 velocity), year, month, day, hour, minute, second, site number, number of
- * cuts (POLAR_OPEN_*).
+ * answer: product (1 reflectivity, 2 velocity), year, month, day, hour, minute, second, site number, number of cuts
+ * (POLAR_OPEN_*).
  */
-uint32_t polar_open(const uint8_t *file, size_t len, uint64_t answer[10]);
+uint64_t polar_open(const uint8_t *file, size_t len, uint64_t answer[9]);
 
 /*
  * Cut: what sections 3 and 4 say of one cut.
- * answer (POLAR_CUT_*): place; Nb, bins on a ray; Nr, rays; latitude and longitude in 10^-6 degrees; Dx, the bins'
+ * answer (POLAR_CUT_*): Nb, bins on a ray; Nr, rays; latitude and longitude in 10^-6 degrees; Dx, the bins'
  * spacing, and Dstart, both in 10^-3 m; start azimuth in 10^-2 degrees; octet 38, the mode of operation (0, 1, 2, or
  * 255 missing); 1 where the elevation is known and 0 where it is missing; the elevation constant in 10^-2 degrees.
  * Where the elevation is missing its word is UNCHANGED: look at POLAR_CUT_ELEVATION_KNOWN first.
  * Refusal 10: cut.
  */
-uint32_t polar_cut(const uint8_t *file, size_t len, size_t cut, int64_t answer[11]);
+uint64_t polar_cut(const uint8_t *file, size_t len, size_t cut, int64_t answer[10]);
 
 /*
  * Ray levels: writes Nb levels at the front of `levels`. Level 0 is missing: it is no value, and never 0 dBZ.
  * Refusal 10: cut, ray. Refusal 11: room under Nb.
  */
-uint32_t polar_ray_levels(const uint8_t *file, size_t len, size_t cut, size_t ray, uint8_t *levels, size_t room,
-                          uint64_t place[1]);
+uint64_t polar_ray_levels(const uint8_t *file, size_t len, size_t cut, size_t ray, uint8_t *levels, size_t room);
 
 /*
  * Ray values: writes Nb marks (POLAR_MARK_*) at the front of `marks` and, at each measured place, the value in
@@ -223,8 +224,8 @@ uint32_t polar_ray_levels(const uint8_t *file, size_t len, size_t cut, size_t ra
  * A missing place of `values` is UNCHANGED: look at its mark first, and fill `values` with POLAR_NO_VALUE beforehand.
  * Refusal 10: cut, ray. Refusal 11: either room under Nb.
  */
-uint32_t polar_ray_values(const uint8_t *file, size_t len, size_t cut, size_t ray, uint8_t *marks, size_t marks_room,
-                          int32_t *values, size_t values_room, uint64_t place[1]);
+uint64_t polar_ray_values(const uint8_t *file, size_t len, size_t cut, size_t ray, uint8_t *marks, size_t marks_room,
+                          int32_t *values, size_t values_room);
 
 /*
  * A record says where a ray begins in its cut's data, which is section 7 from octet 6 on: the offset in the data of the
@@ -241,8 +242,7 @@ typedef struct {
  * records.
  * Refusal 10: cut. Refusal 11: room under Nr.
  */
-uint32_t polar_build_index(const uint8_t *file, size_t len, size_t cut, polar_ray_record *records, size_t room,
-                           uint64_t place[1]);
+uint64_t polar_build_index(const uint8_t *file, size_t len, size_t cut, polar_ray_record *records, size_t room);
 
 /*
  * Ray levels by a record, given as its two words: writes the Nb levels that decoding from there gives at the front of
@@ -252,73 +252,73 @@ uint32_t polar_build_index(const uint8_t *file, size_t len, size_t cut, polar_ra
  * Refusal 10: cut, ray. Refusal 11: room under Nb. Refusal 13, at the cut's section 7: the offset lies outside the
  * data; the octet there is above V; `before` is not under the run's length; the data ends before Nb bins.
  */
-uint32_t polar_ray_levels_from(const uint8_t *file, size_t len, size_t cut, size_t ray, uint32_t offset,
-                               uint32_t before, uint8_t *levels, size_t room, uint64_t place[1]);
+uint64_t polar_ray_levels_from(const uint8_t *file, size_t len, size_t cut, size_t ray, uint32_t offset,
+                               uint32_t before, uint8_t *levels, size_t room);
 
 /*
  * Ray values by a record: writes marks and values as polar_ray_values does, of the bins of polar_ray_levels_from.
  * A missing place of `values` is UNCHANGED: look at its mark first, and fill `values` with POLAR_NO_VALUE beforehand.
  * Refusal 10: cut, ray. Refusal 11: either room under Nb. Refusal 13: as there.
  */
-uint32_t polar_ray_values_from(const uint8_t *file, size_t len, size_t cut, size_t ray, uint32_t offset,
+uint64_t polar_ray_values_from(const uint8_t *file, size_t len, size_t cut, size_t ray, uint32_t offset,
                                uint32_t before, uint8_t *marks, size_t marks_room, int32_t *values,
-                               size_t values_room, uint64_t place[1]);
+                               size_t values_room);
 
 /*
  * Bin value: sets *value to the value, the whole hundredths taken over exactly and divided once by 100, where the bin
  * is measured.
- * answer: place, mark (POLAR_BIN_MARK).
+ * answer: the mark (POLAR_BIN_MARK).
  * Where the bin is missing *value is UNCHANGED: look at the mark first, and set *value to POLAR_NO_VALUE_DOUBLE
  * beforehand.
  * Refusal 10: cut, ray, bin.
  */
-uint32_t polar_bin_value(const uint8_t *file, size_t len, size_t cut, size_t ray, size_t bin, double *value,
-                         uint64_t answer[2]);
+uint64_t polar_bin_value(const uint8_t *file, size_t len, size_t cut, size_t ray, size_t bin, double *value,
+                         uint64_t answer[1]);
 
 /*
  * Stretches: every longest stretch of one kind on a ray that starts at or past the point (ray, bin), by ray and then by
  * first bin, as many as fit: POLAR_ENTRY_WORDS words to an entry (ray, first bin, length, kind: POLAR_ENTRY_*) at the
  * front of `words`, which has room for `room` words. t is the threshold in hundredths, POLAR_LEAST_THRESHOLD to
  * POLAR_MOST_THRESHOLD. The point is inside the grid, or (Nr, 0).
- * answer (POLAR_LIST_*): place, count of entries, and the next point, ray and bin: the first unlisted start at or past
+ * answer (POLAR_LIST_*): count of entries, and the next point, ray and bin: the first unlisted start at or past
  * the point, or (Nr, 0) if there is none. Handed back as the next call's point it goes on with the list.
  * Refusal 10: cut, t, point. Refusal 11: room under POLAR_ENTRY_WORDS.
  */
-uint32_t polar_stretches(const uint8_t *file, size_t len, size_t cut, int32_t t, size_t ray, size_t bin,
-                         uint32_t *words, size_t room, uint64_t answer[4]);
+uint64_t polar_stretches(const uint8_t *file, size_t len, size_t cut, int64_t t, size_t ray, size_t bin,
+                         uint32_t *words, size_t room, uint64_t answer[3]);
 
 /* The same at the house threshold, POLAR_HOUSE_THRESHOLD. */
-uint32_t polar_house_stretches(const uint8_t *file, size_t len, size_t cut, size_t ray, size_t bin, uint32_t *words,
-                               size_t room, uint64_t answer[4]);
+uint64_t polar_house_stretches(const uint8_t *file, size_t len, size_t cut, size_t ray, size_t bin, uint32_t *words,
+                               size_t room, uint64_t answer[3]);
 
 /* ---- dual-polarisation files: "Dual-polarisation files" ---- */
 
 /*
  * Open.
- * answer: place, parameter number (octet 11 of section 4: 195 is horizontal reflectivity, and so on), year, month, day,
- * hour, minute, second, site number, number of cuts (POLAR_OPEN_*).
+ * answer: parameter number (octet 11 of section 4: 195 is horizontal reflectivity, and so on), year, month, day, hour,
+ * minute, second, site number, number of cuts (POLAR_OPEN_*).
  */
-uint32_t polar_dual_open(const uint8_t *file, size_t len, uint64_t answer[10]);
+uint64_t polar_dual_open(const uint8_t *file, size_t len, uint64_t answer[9]);
 
 /*
  * Cut: what section 3 says of one cut.
- * answer (POLAR_CUT_*): place; Nb, bins on a ray; Nr, rays; latitude and longitude in 10^-6 degrees; Dx, the bins'
+ * answer (POLAR_CUT_*): Nb, bins on a ray; Nr, rays; latitude and longitude in 10^-6 degrees; Dx, the bins'
  * spacing, and Dstart, both in 10^-3 m.
  * Refusal 10: cut.
  */
-uint32_t polar_dual_cut(const uint8_t *file, size_t len, size_t cut, int64_t answer[7]);
+uint64_t polar_dual_cut(const uint8_t *file, size_t len, size_t cut, int64_t answer[6]);
 
 /*
  * Bin value: sets *value to the value in the parameter's own unit where the bin is measured. A cell of all ones has no
  * value: it is invalid or nothing was detected there, and the file does not say which. It does not say that the radar
  * was blind. The value lies within |Y|/2^51 of the exact Y, where Y x 10^D = R + Z x 2^E, and is 0 where Y is.
- * answer: place, mark (POLAR_BIN_MARK).
+ * answer: the mark (POLAR_BIN_MARK).
  * Where there is no value *value is UNCHANGED: look at the mark first, and set *value to POLAR_NO_VALUE_DOUBLE
  * beforehand.
  * Refusal 10: cut, ray, bin.
  */
-uint32_t polar_dual_bin_value(const uint8_t *file, size_t len, size_t cut, size_t ray, size_t bin, double *value,
-                              uint64_t answer[2]);
+uint64_t polar_dual_bin_value(const uint8_t *file, size_t len, size_t cut, size_t ray, size_t bin, double *value,
+                              uint64_t answer[1]);
 
 #ifdef __cplusplus
 }

@@ -14,4 +14,7 @@ static int checks_failed = 0;
         }                                                                 \
     } while (0)
 
+/* What a call returns that refuses by this number at this place. */
+#define REFUSED(number, place) ((uint64_t)(number) + 256u * (uint64_t)(place))
+
 #endif

@@ -4,9 +4,11 @@
 
 static uint8_t file[POLAR_MOST_FILE + 1];
 
-static int refused(uint32_t number, uint64_t place)
+static int refused(uint64_t returned)
 {
-    printf("refused %u at %lu: %s\n", (unsigned)number, (unsigned long)place, polar_refusal_text(number));
+    uint32_t number = POLAR_NUMBER(returned);
+
+    printf("refused %u at %lu: %s\n", (unsigned)number, (unsigned long)POLAR_PLACE(returned), polar_refusal_text(number));
     return 1;
 }
 
@@ -14,21 +16,21 @@ int main(int argc, char **argv)
 {
     FILE *in = argc > 1 ? fopen(argv[1], "rb") : NULL;
     size_t len = in != NULL ? fread(file, 1, sizeof file, in) : 0; /* no file is a file too short */
-    uint64_t bin[POLAR_BIN_WORDS], list[POLAR_LIST_WORDS] = {0};
-    uint32_t words[100 * POLAR_ENTRY_WORDS], number; /* room for a hundred entries at a time */
+    uint64_t returned, bin[POLAR_BIN_WORDS], list[POLAR_LIST_WORDS] = {0};
+    uint32_t words[100 * POLAR_ENTRY_WORDS]; /* room for a hundred entries at a time */
     double value = POLAR_NO_VALUE_DOUBLE;
 
-    if ((number = polar_bin_value(file, len, 0, 1, 0, &value, bin)) != 0)
-        return refused(number, bin[POLAR_PLACE]);
+    if ((returned = polar_bin_value(file, len, 0, 1, 0, &value, bin)) != 0)
+        return refused(returned);
     if (bin[POLAR_BIN_MARK] == POLAR_MARK_MEASURED)
         printf("ray 1, bin 0: %.2f\n", value);
     else
         puts("ray 1, bin 0: no value, which is not 0");
     do { /* a portion begins where the last one ended, and an empty one ends the list */
         size_t ray = (size_t)list[POLAR_LIST_NEXT_RAY], first = (size_t)list[POLAR_LIST_NEXT_BIN];
-        number = polar_house_stretches(file, len, 0, ray, first, words, sizeof words / sizeof *words, list);
-        if (number != 0)
-            return refused(number, list[POLAR_PLACE]);
+        returned = polar_house_stretches(file, len, 0, ray, first, words, sizeof words / sizeof *words, list);
+        if (returned != 0)
+            return refused(returned);
         for (size_t i = 0; i < list[POLAR_LIST_COUNT]; i++) {
             const uint32_t *entry = words + i * POLAR_ENTRY_WORDS;
             if (entry[POLAR_ENTRY_KIND] == POLAR_MISSING)

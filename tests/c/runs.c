@@ -8,24 +8,25 @@ static void reading(void)
 {
     const uint8_t octets[] = {3, 11, 12};
     uint8_t levels[250];
-    uint64_t place[1] = {77};
     size_t i;
 
     memset(levels, 9, sizeof levels);
     CHECK(polar_run_check(octets, 3, 10, 246) == 0);
-    CHECK(polar_run_read(octets, 3, 10, 246, levels, sizeof levels, place) == 0);
-    CHECK(place[0] == 0);
+    CHECK(polar_run_read(octets, 3, 10, 246, levels, sizeof levels) == 0);
     for (i = 0; i < sizeof levels; i++)
         CHECK(levels[i] == (i < 246 ? 3 : 9));
 
     memset(levels, 9, sizeof levels);
-    place[0] = 77;
-    CHECK(polar_run_read(octets, 3, 254, 1, levels, sizeof levels, place) == POLAR_V);
-    CHECK(polar_run_read(octets, 3, 10, 2097153, levels, sizeof levels, place) == POLAR_ARGUMENT);
-    CHECK(polar_run_read(octets, 3, 10, 246, levels, 245, place) == POLAR_ROOM);
-    CHECK(polar_run_read(octets, 3, 10, 245, levels, sizeof levels, place) == POLAR_DATA);
-    CHECK(polar_run_read(octets + 1, 2, 10, 1, levels, sizeof levels, place) == POLAR_DATA);
-    CHECK(place[0] == 0);
+    CHECK(polar_run_read(octets, 3, 254, 1, levels, sizeof levels) == POLAR_V);
+    CHECK(polar_run_read(octets, 3, 10, 2097153, levels, sizeof levels) == POLAR_ARGUMENT);
+    CHECK(polar_run_read(octets, 3, 10, 246, levels, 245) == POLAR_ROOM);
+    CHECK(polar_run_read(octets, 3, 10, 245, levels, sizeof levels) == POLAR_DATA);
+    CHECK(polar_run_read(octets + 1, 2, 10, 1, levels, sizeof levels) == POLAR_DATA);
+    /* a V that fewer bits would hold as 10 */
+    CHECK(polar_run_read(octets, 3, 256 + 10, 246, levels, sizeof levels) == POLAR_V);
+    CHECK(polar_run_read(octets, 3, (UINT64_C(1) << 32) + 10, 246, levels, sizeof levels) == POLAR_V);
+    CHECK(polar_run_check(octets, 3, 256 + 10, 246) == POLAR_V);
+    CHECK(polar_run_check(octets, 3, UINT64_MAX, 246) == POLAR_V);
     for (i = 0; i < sizeof levels; i++)
         CHECK(levels[i] == 9);
 
@@ -40,43 +41,51 @@ static void writing(void)
     const uint8_t expected[] = {252, 253, 253, 254, 9};
     const uint8_t above[] = {253};
     uint8_t octets[] = {9, 9, 9, 9, 9};
-    uint64_t answer[3] = {77, 77, 77};
+    uint64_t answer[2] = {77, 77};
 
     CHECK(polar_run_write(levels, 10, octets, 3, answer) == POLAR_ROOM);
-    CHECK(answer[0] == 0 && answer[1] == 77 && answer[2] == 77 && octets[0] == 9);
+    CHECK(answer[0] == 77 && answer[1] == 77 && octets[0] == 9);
     CHECK(polar_run_write(above, 1, octets, 5, answer) == POLAR_ARGUMENT);
-    CHECK(answer[0] == 0 && answer[1] == 77 && answer[2] == 77 && octets[0] == 9);
+    CHECK(answer[0] == 77 && answer[1] == 77 && octets[0] == 9);
     CHECK(polar_run_write(levels, 10, octets, 5, answer) == 0);
-    CHECK(answer[0] == 0 && answer[1] == 252 && answer[2] == 4);
+    CHECK(answer[POLAR_RUN_V] == 252 && answer[POLAR_RUN_OCTETS] == 4);
     CHECK(memcmp(octets, expected, sizeof expected) == 0);
     CHECK(polar_run_write(levels, 0, octets, 0, answer) == 0);
-    CHECK(answer[1] == 0 && answer[2] == 0);
+    CHECK(answer[0] == 0 && answer[1] == 0);
 }
 
 /* Where a length is 0 the pointer may be null. */
 static void nulls(void)
 {
     const uint8_t octets[] = {3};
-    uint64_t answer[10] = {77, 77, 77};
-    int64_t cut[11];
+    uint64_t answer[9] = {77, 77, 77};
+    int64_t cut[10];
 
     CHECK(polar_run_check(NULL, 0, 10, 0) == 0);
     CHECK(polar_run_check(NULL, 0, 10, 1) == POLAR_DATA);
-    CHECK(polar_run_read(NULL, 0, 10, 0, NULL, 0, answer) == 0 && answer[0] == 0);
-    CHECK(polar_run_read(octets, 1, 10, 1, NULL, 0, answer) == POLAR_ROOM);
-    CHECK(polar_run_write(NULL, 0, NULL, 0, answer) == 0 && answer[1] == 0 && answer[2] == 0);
+    CHECK(polar_run_read(NULL, 0, 10, 0, NULL, 0) == 0);
+    CHECK(polar_run_read(octets, 1, 10, 1, NULL, 0) == POLAR_ROOM);
+    CHECK(polar_run_write(NULL, 0, NULL, 0, answer) == 0 && answer[0] == 0 && answer[1] == 0);
     CHECK(polar_run_write(octets, 1, NULL, 0, answer) == POLAR_ROOM);
     CHECK(polar_open(NULL, 0, answer) == POLAR_FILE_SIZE);
     CHECK(polar_cut(NULL, 0, 0, cut) == POLAR_FILE_SIZE);
-    CHECK(polar_ray_levels(NULL, 0, 0, 0, NULL, 0, answer) == POLAR_FILE_SIZE);
-    CHECK(polar_ray_values(NULL, 0, 0, 0, NULL, 0, NULL, 0, answer) == POLAR_FILE_SIZE);
-    CHECK(polar_build_index(NULL, 0, 0, NULL, 0, answer) == POLAR_FILE_SIZE);
-    CHECK(polar_ray_levels_from(NULL, 0, 0, 0, 0, 0, NULL, 0, answer) == POLAR_FILE_SIZE);
-    CHECK(polar_ray_values_from(NULL, 0, 0, 0, 0, 0, NULL, 0, NULL, 0, answer) == POLAR_FILE_SIZE);
+    CHECK(polar_ray_levels(NULL, 0, 0, 0, NULL, 0) == POLAR_FILE_SIZE);
+    CHECK(polar_ray_values(NULL, 0, 0, 0, NULL, 0, NULL, 0) == POLAR_FILE_SIZE);
+    CHECK(polar_build_index(NULL, 0, 0, NULL, 0) == POLAR_FILE_SIZE);
+    CHECK(polar_ray_levels_from(NULL, 0, 0, 0, 0, 0, NULL, 0) == POLAR_FILE_SIZE);
+    CHECK(polar_ray_values_from(NULL, 0, 0, 0, 0, 0, NULL, 0, NULL, 0) == POLAR_FILE_SIZE);
     CHECK(polar_stretches(NULL, 0, 0, 0, 0, 0, NULL, 0, answer) == POLAR_FILE_SIZE);
     CHECK(polar_house_stretches(NULL, 0, 0, 0, 0, NULL, 0, answer) == POLAR_FILE_SIZE);
     CHECK(polar_dual_open(NULL, 0, answer) == POLAR_FILE_SIZE);
     CHECK(polar_dual_cut(NULL, 0, 0, cut) == POLAR_FILE_SIZE);
+}
+
+/* A word has the number in its last eight bits and the place in the rest. */
+static void words(void)
+{
+    CHECK(POLAR_NUMBER(0) == 0 && POLAR_PLACE(0) == 0);
+    CHECK(POLAR_NUMBER(REFUSED(POLAR_RECORD, 673)) == POLAR_RECORD && POLAR_PLACE(REFUSED(POLAR_RECORD, 673)) == 673);
+    CHECK(POLAR_PLACE(REFUSED(POLAR_UNREAD, POLAR_MOST_FILE)) == POLAR_MOST_FILE);
 }
 
 /* Every refusal has a text of its own, and no other number has one. */
@@ -100,8 +109,8 @@ static void no_values(void)
 
     CHECK(POLAR_NO_VALUE < POLAR_LEAST_THRESHOLD);
     CHECK(!(none == none));
-    CHECK(POLAR_RUN_WORDS == 3 && POLAR_OPEN_WORDS == 10 && POLAR_CUT_WORDS == 11 && POLAR_DUAL_CUT_WORDS == 7);
-    CHECK(POLAR_BIN_WORDS == 2 && POLAR_LIST_WORDS == 4);
+    CHECK(POLAR_RUN_WORDS == 2 && POLAR_OPEN_WORDS == 9 && POLAR_CUT_WORDS == 10 && POLAR_DUAL_CUT_WORDS == 6);
+    CHECK(POLAR_BIN_WORDS == 1 && POLAR_LIST_WORDS == 3);
 }
 
 int main(void)
@@ -109,6 +118,7 @@ int main(void)
     reading();
     writing();
     nulls();
+    words();
     texts();
     no_values();
     return checks_failed != 0;

@@ -16,9 +16,9 @@ static size_t dual_len;
 
 /* All that the calls answer and write. */
 typedef struct {
-    uint32_t numbers[16];
-    uint64_t run[3], opened[10], dual_opened[10], place[8], bin[2], dual_bin[2], list[4], house[4];
-    int64_t cut[11], dual_cut[7];
+    uint64_t returned[16];
+    uint64_t run[2], opened[9], dual_opened[9], bin[1], dual_bin[1], list[3], house[3];
+    int64_t cut[10], dual_cut[6];
     uint8_t levels[8], from[8], run_levels[8], run_octets[8], marks[8], marks_from[8];
     int32_t values[8], values_from[8];
     polar_ray_record records[2];
@@ -29,25 +29,25 @@ typedef struct {
 static void every_call(answers *a)
 {
     static const uint8_t octets[] = {3, 11};
-    uint32_t *number = a->numbers;
+    uint64_t *returned = a->returned;
 
-    *number++ = polar_run_check(octets, 2, 10, 1);
-    *number++ = polar_run_read(octets, 2, 10, 1, a->run_levels, 8, a->place);
-    *number++ = polar_run_write(octets, 2, a->run_octets, 8, a->run);
-    *number++ = polar_open(file, len, a->opened);
-    *number++ = polar_cut(file, len, 0, a->cut);
-    *number++ = polar_ray_levels(file, len, 0, 1, a->levels, 8, a->place + 1);
-    *number++ = polar_ray_values(file, len, 0, 1, a->marks, 8, a->values, 8, a->place + 2);
-    *number++ = polar_build_index(file, len, 0, a->records, 2, a->place + 3);
-    *number++ = polar_ray_levels_from(file, len, 0, 1, a->records[1].offset, a->records[1].before, a->from, 8, a->place + 4);
-    *number++ = polar_ray_values_from(file, len, 0, 1, a->records[1].offset, a->records[1].before, a->marks_from, 8,
-                                      a->values_from, 8, a->place + 5);
-    *number++ = polar_bin_value(file, len, 0, 1, 0, &a->value, a->bin);
-    *number++ = polar_stretches(file, len, 0, 4000, 0, 0, a->words, 32, a->list);
-    *number++ = polar_house_stretches(file, len, 0, 0, 0, a->house_words, 32, a->house);
-    *number++ = polar_dual_open(dual, dual_len, a->dual_opened);
-    *number++ = polar_dual_cut(dual, dual_len, 0, a->dual_cut);
-    *number++ = polar_dual_bin_value(dual, dual_len, 0, 0, 0, &a->dual_value, a->dual_bin);
+    *returned++ = polar_run_check(octets, 2, 10, 1);
+    *returned++ = polar_run_read(octets, 2, 10, 1, a->run_levels, 8);
+    *returned++ = polar_run_write(octets, 2, a->run_octets, 8, a->run);
+    *returned++ = polar_open(file, len, a->opened);
+    *returned++ = polar_cut(file, len, 0, a->cut);
+    *returned++ = polar_ray_levels(file, len, 0, 1, a->levels, 8);
+    *returned++ = polar_ray_values(file, len, 0, 1, a->marks, 8, a->values, 8);
+    *returned++ = polar_build_index(file, len, 0, a->records, 2);
+    *returned++ = polar_ray_levels_from(file, len, 0, 1, a->records[1].offset, a->records[1].before, a->from, 8);
+    *returned++ = polar_ray_values_from(file, len, 0, 1, a->records[1].offset, a->records[1].before, a->marks_from, 8,
+                                        a->values_from, 8);
+    *returned++ = polar_bin_value(file, len, 0, 1, 0, &a->value, a->bin);
+    *returned++ = polar_stretches(file, len, 0, 4000, 0, 0, a->words, 32, a->list);
+    *returned++ = polar_house_stretches(file, len, 0, 0, 0, a->house_words, 32, a->house);
+    *returned++ = polar_dual_open(dual, dual_len, a->dual_opened);
+    *returned++ = polar_dual_cut(dual, dual_len, 0, a->dual_cut);
+    *returned++ = polar_dual_bin_value(dual, dual_len, 0, 0, 0, &a->dual_value, a->dual_bin);
 }
 
 static answers expected;
@@ -84,7 +84,7 @@ int main(int argc, char **argv)
     memset(&expected, 0, sizeof expected);
     every_call(&expected);
     for (i = 0; i < 16; i++)
-        CHECK(expected.numbers[i] == 0);
+        CHECK(expected.returned[i] == 0);
     CHECK(expected.value == 41.12 && expected.list[POLAR_LIST_COUNT] == 5);
 
     CHECK(pthread_attr_init(&least) == 0);

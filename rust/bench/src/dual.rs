@@ -29,12 +29,12 @@ fn calls(name: &str, file: &[u8]) {
     let (last, grid) = (cuts.len() - 1, cuts[cuts.len() - 1].grid);
     let (ray, bin) = (grid.rays - 1, grid.bins - 1);
     let table = Table::new(name, file.len());
-    table.row("open", || polar_sys::dual_open(black_box(file), &mut [0; 10]), || plain::dual::open(black_box(file)).is_ok());
-    table.row("cut", || polar_sys::dual_cut(black_box(file), last, &mut [0; 7]), || plain::dual::cut(black_box(file), last).is_ok());
+    table.row("open", || polar_sys::dual_open(black_box(file), &mut [0; 9]), || plain::dual::open(black_box(file)).is_ok());
+    table.row("cut", || polar_sys::dual_cut(black_box(file), last, &mut [0; 6]), || plain::dual::cut(black_box(file), last).is_ok());
     let (mut ours, mut plain) = (0.0, Ok(None));
     table.row(
         "bin value",
-        || assert_eq!(polar_sys::dual_bin_value(black_box(file), last, ray, bin, &mut ours, &mut [0; 2]), 0),
+        || assert_eq!(polar_sys::dual_bin_value(black_box(file), last, ray, bin, &mut ours, &mut [0]), 0),
         || plain = plain::dual::bin_value(black_box(file), last, ray, bin),
     );
     assert_eq!(plain, Ok(Some(ours)));

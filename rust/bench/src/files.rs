@@ -42,25 +42,25 @@ fn calls(name: &str, file: &[u8]) {
     let grid = accepted.cuts[last].grid;
     let (bins, ray, bin) = (grid.bins, grid.rays - 1, grid.bins - 1);
     let table = Table::new(name, file.len());
-    table.row("open", || polar_sys::open(black_box(file), &mut [0; 10]), || plain::file::open(black_box(file)).is_ok());
-    table.row("cut", || polar_sys::cut(black_box(file), last, &mut [0; 11]), || plain::file::cut(black_box(file), last).is_ok());
+    table.row("open", || polar_sys::open(black_box(file), &mut [0; 9]), || plain::file::open(black_box(file)).is_ok());
+    table.row("cut", || polar_sys::cut(black_box(file), last, &mut [0; 10]), || plain::file::cut(black_box(file), last).is_ok());
     let (mut ours, mut plain) = (vec![0; bins], vec![0; bins]);
     table.row(
         "ray levels",
-        || assert_eq!(polar_sys::ray_levels(black_box(file), last, ray, &mut ours, &mut [0]), 0),
+        || assert_eq!(polar_sys::ray_levels(black_box(file), last, ray, &mut ours), 0),
         || assert_eq!(plain::rays::ray_levels(black_box(file), last, ray, &mut plain), Ok(())),
     );
     assert_eq!(ours, plain);
     let (mut our_values, mut plain_values) = (vec![0; bins], vec![0; bins]);
     table.row(
         "ray values",
-        || assert_eq!(polar_sys::ray_values(black_box(file), last, ray, &mut ours, &mut our_values, &mut [0]), 0),
+        || assert_eq!(polar_sys::ray_values(black_box(file), last, ray, &mut ours, &mut our_values), 0),
         || assert_eq!(plain::rays::ray_values(black_box(file), last, ray, &mut plain, &mut plain_values), Ok(())),
     );
     assert_eq!((ours, our_values), (plain, plain_values));
     table.row(
         "bin value",
-        || polar_sys::bin_value(black_box(file), last, ray, bin, &mut 0.0, &mut [0; 2]),
+        || polar_sys::bin_value(black_box(file), last, ray, bin, &mut 0.0, &mut [0]),
         || plain::rays::bin_value(black_box(file), last, ray, bin).is_ok(),
     );
     list(&table, file, last, bins * grid.rays);
@@ -72,7 +72,7 @@ fn by_record(table: &Table, file: &[u8], cut: usize, rays: usize, bins: usize) {
     let (mut records, mut plain_records) = (vec![RayRecord::default(); rays], vec![Record::default(); rays]);
     table.row(
         "build index",
-        || assert_eq!(polar_sys::build_index(black_box(file), cut, &mut records, &mut [0]), 0),
+        || assert_eq!(polar_sys::build_index(black_box(file), cut, &mut records), 0),
         || assert_eq!(plain::index::build(black_box(file), cut, &mut plain_records), Ok(())),
     );
     let (ray, record, plain_record) = (rays - 1, records[rays - 1], plain_records[rays - 1]);
@@ -80,14 +80,14 @@ fn by_record(table: &Table, file: &[u8], cut: usize, rays: usize, bins: usize) {
     let (mut ours, mut plain) = (vec![0; bins], vec![0; bins]);
     table.row(
         "ray levels by a record",
-        || assert_eq!(polar_sys::ray_levels_from(black_box(file), cut, ray, record, &mut ours, &mut [0]), 0),
+        || assert_eq!(polar_sys::ray_levels_from(black_box(file), cut, ray, record, &mut ours), 0),
         || assert_eq!(plain::index::ray_levels(black_box(file), cut, ray, plain_record, &mut plain), Ok(())),
     );
     assert_eq!(ours, plain);
     let (mut our_values, mut plain_values) = (vec![0; bins], vec![0; bins]);
     table.row(
         "ray values by a record",
-        || assert_eq!(polar_sys::ray_values_from(black_box(file), cut, ray, record, &mut ours, &mut our_values, &mut [0]), 0),
+        || assert_eq!(polar_sys::ray_values_from(black_box(file), cut, ray, record, &mut ours, &mut our_values), 0),
         || assert_eq!(plain::index::ray_values(black_box(file), cut, ray, plain_record, &mut plain, &mut plain_values), Ok(())),
     );
     assert_eq!((ours, our_values), (plain, plain_values));
@@ -96,7 +96,7 @@ fn by_record(table: &Table, file: &[u8], cut: usize, rays: usize, bins: usize) {
 /// The whole list of a cut in one portion.
 fn list(table: &Table, file: &[u8], cut: usize, most: usize) {
     let (mut ours, mut plain) = (vec![0; 4 * most], vec![0; 4 * most]);
-    let mut answer = [0; 4];
+    let mut answer = [0; 3];
     table.row(
         "stretches",
         || assert_eq!(polar_sys::house_stretches(black_box(file), cut, (0, 0), &mut ours, &mut answer), 0),

@@ -60,7 +60,7 @@ impl<'a> Rays<'a> {
 }
 
 fn build_ours(file: &[u8], cut: usize, records: &mut [RayRecord]) -> bool {
-    polar_sys::build_index(file, cut, records, &mut [0]) == 0
+    polar_sys::build_index(file, cut, records) == 0
 }
 
 fn build_plain(file: &[u8], cut: usize, records: &mut [Record]) -> bool {
@@ -75,7 +75,7 @@ pub fn rows() {
         file.len(),
         "opens",
         "one open",
-        || polar_sys::open(black_box(file), &mut [0; 10]),
+        || polar_sys::open(black_box(file), &mut [0; 9]),
         || plain::file::open(black_box(file)).is_ok(),
     );
     let (mut records, mut plain_records) = (vec![RayRecord::default(); rays.all.len()], vec![Record::default(); rays.all.len()]);
@@ -88,9 +88,7 @@ fn all_levels(table: &Table, rays: &Rays, records: &[RayRecord], plain_records: 
     let bins = rays.all.last().expect("a ray").bins.end;
     let (mut ours, mut plain) = (vec![0; bins], vec![0; bins]);
     let by_record = |records: &[RayRecord], levels: &mut [u8]| {
-        rays.levels(levels, |file, at, ray, levels| {
-            polar_sys::ray_levels_from(file, ray.cut, ray.index, records[at], levels, &mut [0]) == 0
-        })
+        rays.levels(levels, |file, at, ray, levels| polar_sys::ray_levels_from(file, ray.cut, ray.index, records[at], levels) == 0)
     };
     table.row(
         "levels by records",
@@ -110,7 +108,7 @@ fn all_levels(table: &Table, rays: &Rays, records: &[RayRecord], plain_records: 
     assert!(ours == plain);
     table.slow_row(
         "levels by plain calls, ray by ray",
-        || rays.levels(&mut ours, |file, _, ray, levels| polar_sys::ray_levels(file, ray.cut, ray.index, levels, &mut [0]) == 0),
+        || rays.levels(&mut ours, |file, _, ray, levels| polar_sys::ray_levels(file, ray.cut, ray.index, levels) == 0),
         || rays.levels(&mut plain, |file, _, ray, levels| plain::rays::ray_levels(file, ray.cut, ray.index, levels).is_ok()),
     );
     assert!(ours == plain);
@@ -121,7 +119,7 @@ fn all_values(table: &Table, rays: &Rays, records: &[RayRecord], plain_records: 
     let (mut marks, mut values, mut plain_marks, mut plain_values) = (vec![0; bins], vec![0; bins], vec![0; bins], vec![0; bins]);
     let by_record = |records: &[RayRecord], marks: &mut [u8], values: &mut [i32]| {
         rays.values(marks, values, |file, at, ray, marks, values| {
-            polar_sys::ray_values_from(file, ray.cut, ray.index, records[at], marks, values, &mut [0]) == 0
+            polar_sys::ray_values_from(file, ray.cut, ray.index, records[at], marks, values) == 0
         })
     };
     table.row(

@@ -19,18 +19,18 @@ pub fn rows() {
         let (mut ours, mut plain) = (vec![0u8; MOST_LEVELS], vec![0u8; MOST_LEVELS]);
         table.row(
             "scan",
-            || assert_eq!(polar_sys::run_check(black_box(&octets), v, MOST_LEVELS), 0),
+            || assert_eq!(polar_sys::run_check(black_box(&octets), v.into(), MOST_LEVELS), 0),
             || assert_eq!(plain::runs::check(black_box(&octets), v, MOST_LEVELS), Ok(())),
         );
         table.row(
             "read",
-            || assert_eq!(polar_sys::run_read(black_box(&octets), v, MOST_LEVELS, &mut ours, &mut [0]), 0),
+            || assert_eq!(polar_sys::run_read(black_box(&octets), v.into(), MOST_LEVELS, &mut ours), 0),
             || assert_eq!(plain::runs::read(black_box(&octets), v, MOST_LEVELS, &mut plain), Ok(())),
         );
         assert!(ours == levels && plain == levels);
         table.row(
             "write",
-            || assert_eq!(polar_sys::run_write(black_box(&levels), &mut ours, &mut [0; 3]), 0),
+            || assert_eq!(polar_sys::run_write(black_box(&levels), &mut ours, &mut [0; 2]), 0),
             || assert_eq!(plain::runs::write(black_box(&levels), &mut plain), Ok((v, octets.len()))),
         );
         assert!(ours[..octets.len()] == octets && plain[..octets.len()] == octets);

@@ -17,14 +17,14 @@ pub(crate) fn shown(octets: &[u8]) -> String {
 }
 
 pub fn run_check(octets: &[u8], v: u8, n: usize) -> Result<(), Refusal> {
-    let answer = ours::run_check(octets, v, n);
+    let answer = ours::run_check(octets, v.into(), n);
     assert_eq!(answer, runs::run_check(octets, v, n), "run check, V {v}, n {n}, {}", shown(octets));
     answer
 }
 
 pub fn run_read(octets: &[u8], v: u8, n: usize, room: usize) -> Result<(), Refusal> {
     let (mut mine, mut theirs) = (Lent::new(room), Lent::new(room));
-    let answer = ours::run_read(octets, v, n, mine.room());
+    let answer = ours::run_read(octets, v.into(), n, mine.room());
     let call = || format!("run read, V {v}, n {n}, room {room}, {}", shown(octets));
     assert_eq!(answer, runs::run_read(octets, v, n, theirs.room()), "{}", call());
     assert!(mine == theirs, "levels differ: {}", call());
@@ -165,7 +165,7 @@ impl<'a> Compared<'a> {
     /// One portion of `entries`, the list of this cut at this threshold. Nothing where the cut or the threshold is refused.
     fn portion(&self, cut: usize, t: i32, entries: &[Entry], point: (usize, usize), room: usize) -> Result<Portion, Refusal> {
         let (mut mine, mut theirs) = (Lent::new(room), Lent::new(room));
-        let answer = ours::stretches(self.file, cut, t, point, mine.room());
+        let answer = ours::stretches(self.file, cut, t.into(), point, mine.room());
         let expected = self.theirs(|file| {
             file.check_stretches(cut, t, point, room)?;
             Ok(portion(entries, file.cuts[cut].grid.rays, point, theirs.room()))

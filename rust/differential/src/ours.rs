@@ -14,15 +14,19 @@ use reference::Refusal;
 const KEPT: u64 = 0xA5A5_A5A5_A5A5_A5A5;
 const KEPT_SIGNED: i64 = -0x5A5A_5A5A_5A5A_5A5B;
 
-/// Words 1 and on, or the refusal. Word 0 is the place.
-fn answered<T: Copy + PartialEq + TryInto<u64>, const K: usize>(number: u32, words: [T; K], kept: T) -> Result<[T; K], Refusal> {
-    let Ok(place) = words[0].try_into() else { panic!("a negative place") };
-    if number == 0 {
-        assert_eq!(place, 0, "a place with no refusal");
-        return Ok(words);
+/// What a call returned: nothing refused, or the refusal.
+fn checked(returned: u64) -> Result<(), Refusal> {
+    if returned == 0 {
+        return Ok(());
     }
-    assert!(words[1..].iter().all(|word| *word == kept), "an answer's word changed on refusal");
-    Err(Refusal { number, place })
+    Err(Refusal { number: library::number(returned), place: library::place(returned) })
+}
+
+/// The words of an answer, or the refusal, which leaves them all as they were.
+fn answered<T: Copy + PartialEq, const K: usize>(returned: u64, words: [T; K], kept: T) -> Result<[T; K], Refusal> {
+    let refused = checked(returned);
+    assert!(refused.is_ok() || words.iter().all(|word| *word == kept), "an answer's word changed on refusal");
+    refused.map(|()| words)
 }
 
 /// 0 to 2^64 - 1 as a number of bins, rays, cuts or octets
@@ -47,40 +51,34 @@ fn circle([bins, rays, latitude, longitude, dx, dstart]: [i64; 6]) -> Circle {
     }
 }
 
-/// The bare run check answers no place: it is 0.
-pub fn run_check(octets: &[u8], v: u8, n: usize) -> Result<(), Refusal> {
-    match library::run_check(octets, v, n) {
-        0 => Ok(()),
-        number => Err(Refusal { number, place: 0 }),
-    }
+pub fn run_check(octets: &[u8], v: u64, n: usize) -> Result<(), Refusal> {
+    checked(library::run_check(octets, v, n))
 }
 
-pub fn run_read(octets: &[u8], v: u8, n: usize, levels: &mut [u8]) -> Result<(), Refusal> {
-    let mut place = [KEPT];
-    let number = library::run_read(octets, v, n, levels, &mut place);
-    answered(number, place, KEPT).map(|_| ())
+pub fn run_read(octets: &[u8], v: u64, n: usize, levels: &mut [u8]) -> Result<(), Refusal> {
+    checked(library::run_read(octets, v, n, levels))
 }
 
 pub fn run_write(levels: &[u8], octets: &mut [u8]) -> Result<Written, Refusal> {
-    let mut answer = [KEPT; 3];
-    let number = library::run_write(levels, octets, &mut answer);
-    let [_, v, octets] = answered(number, answer, KEPT)?;
+    let mut answer = [KEPT; 2];
+    let returned = library::run_write(levels, octets, &mut answer);
+    let [v, octets] = answered(returned, answer, KEPT)?;
     Ok(Written { v: u8::try_from(v).expect("V"), octets: size(octets) })
 }
 
 pub fn open(file: &[u8]) -> Result<Opened, Refusal> {
-    let mut answer = [KEPT; 10];
-    let number = library::open(file, &mut answer);
-    let [_, product, year, month, day, hour, minute, second, site, cuts] = answered(number, answer, KEPT)?;
+    let mut answer = [KEPT; 9];
+    let returned = library::open(file, &mut answer);
+    let [product, year, month, day, hour, minute, second, site, cuts] = answered(returned, answer, KEPT)?;
     let product = u8::try_from(product).ok().and_then(Product::of_parameter).expect("a product");
     Ok(Opened { product, time: [year, month, day, hour, minute, second], site, cuts: size(cuts) })
 }
 
 pub fn cut(file: &[u8], cut: usize) -> Result<CutFacts, Refusal> {
-    let mut answer = [KEPT_SIGNED; 11];
-    let number = library::cut(file, cut, &mut answer);
-    let words = answered(number, answer, KEPT_SIGNED)?;
-    let [_, bins, rays, latitude, longitude, dx, dstart, azimuth, mode, known, elevation] = words;
+    let mut answer = [KEPT_SIGNED; 10];
+    let returned = library::cut(file, cut, &mut answer);
+    let words = answered(returned, answer, KEPT_SIGNED)?;
+    let [bins, rays, latitude, longitude, dx, dstart, azimuth, mode, known, elevation] = words;
     let grid = Grid::new(circle([bins, rays, latitude, longitude, dx, dstart]), natural(azimuth));
     let elevation = match known {
         0 => {
@@ -94,15 +92,11 @@ pub fn cut(file: &[u8], cut: usize) -> Result<CutFacts, Refusal> {
 }
 
 pub fn ray_levels(file: &[u8], cut: usize, ray: usize, levels: &mut [u8]) -> Result<(), Refusal> {
-    let mut place = [KEPT];
-    let number = library::ray_levels(file, cut, ray, levels, &mut place);
-    answered(number, place, KEPT).map(|_| ())
+    checked(library::ray_levels(file, cut, ray, levels))
 }
 
 pub fn ray_values(file: &[u8], cut: usize, ray: usize, marks: &mut [u8], values: &mut [i32]) -> Result<(), Refusal> {
-    let mut place = [KEPT];
-    let number = library::ray_values(file, cut, ray, marks, values, &mut place);
-    answered(number, place, KEPT).map(|_| ())
+    checked(library::ray_values(file, cut, ray, marks, values))
 }
 
 /// A record in the library's words.
@@ -111,30 +105,24 @@ pub fn ray_record(Record { offset, before }: Record) -> RayRecord {
 }
 
 pub fn build_index(file: &[u8], cut: usize, records: &mut [RayRecord]) -> Result<(), Refusal> {
-    let mut place = [KEPT];
-    let number = library::build_index(file, cut, records, &mut place);
-    answered(number, place, KEPT).map(|_| ())
+    checked(library::build_index(file, cut, records))
 }
 
 pub fn ray_levels_from(file: &[u8], cut: usize, ray: usize, record: Record, levels: &mut [u8]) -> Result<(), Refusal> {
-    let mut place = [KEPT];
-    let number = library::ray_levels_from(file, cut, ray, ray_record(record), levels, &mut place);
-    answered(number, place, KEPT).map(|_| ())
+    checked(library::ray_levels_from(file, cut, ray, ray_record(record), levels))
 }
 
 pub fn ray_values_from(file: &[u8], cut: usize, ray: usize, record: Record, marks: &mut [u8], values: &mut [i32]) -> Result<(), Refusal> {
-    let mut place = [KEPT];
-    let number = library::ray_values_from(file, cut, ray, ray_record(record), marks, values, &mut place);
-    answered(number, place, KEPT).map(|_| ())
+    checked(library::ray_values_from(file, cut, ray, ray_record(record), marks, values))
 }
 
 /// What a bin call answered. The value's bits, so that they are compared bit for bit.
-fn bin(number: u32, value: f64, answer: [u64; 2]) -> Result<Option<u64>, Refusal> {
-    match answered(number, answer, KEPT) {
-        Ok([_, 1]) => Ok(Some(value.to_bits())),
+fn bin(returned: u64, value: f64, answer: [u64; 1]) -> Result<Option<u64>, Refusal> {
+    match answered(returned, answer, KEPT) {
+        Ok([1]) => Ok(Some(value.to_bits())),
         other => {
             assert_eq!(value.to_bits(), KEPT, "a value where nothing was measured");
-            other.map(|[_, mark]| {
+            other.map(|[mark]| {
                 assert_eq!(mark, 0, "a mark");
                 None
             })
@@ -143,44 +131,43 @@ fn bin(number: u32, value: f64, answer: [u64; 2]) -> Result<Option<u64>, Refusal
 }
 
 pub fn bin_value(file: &[u8], cut: usize, ray: usize, of_ray: usize) -> Result<Option<u64>, Refusal> {
-    let (mut value, mut answer) = (f64::from_bits(KEPT), [KEPT; 2]);
-    let number = library::bin_value(file, cut, ray, of_ray, &mut value, &mut answer);
-    bin(number, value, answer)
+    let (mut value, mut answer) = (f64::from_bits(KEPT), [KEPT]);
+    let returned = library::bin_value(file, cut, ray, of_ray, &mut value, &mut answer);
+    bin(returned, value, answer)
 }
 
-fn portion(number: u32, answer: [u64; 4]) -> Result<Portion, Refusal> {
-    let [_, count, ray, bin] = answered(number, answer, KEPT)?;
+fn portion(returned: u64, answer: [u64; 3]) -> Result<Portion, Refusal> {
+    let [count, ray, bin] = answered(returned, answer, KEPT)?;
     Ok(Portion { count: size(count), next: (size(ray), size(bin)) })
 }
 
-pub fn stretches(file: &[u8], cut: usize, t: i32, point: (usize, usize), words: &mut [u32]) -> Result<Portion, Refusal> {
-    let mut answer = [KEPT; 4];
-    let number = library::stretches(file, cut, t, point, words, &mut answer);
-    portion(number, answer)
+pub fn stretches(file: &[u8], cut: usize, t: i64, point: (usize, usize), words: &mut [u32]) -> Result<Portion, Refusal> {
+    let mut answer = [KEPT; 3];
+    let returned = library::stretches(file, cut, t, point, words, &mut answer);
+    portion(returned, answer)
 }
 
 pub fn house_stretches(file: &[u8], cut: usize, point: (usize, usize), words: &mut [u32]) -> Result<Portion, Refusal> {
-    let mut answer = [KEPT; 4];
-    let number = library::house_stretches(file, cut, point, words, &mut answer);
-    portion(number, answer)
+    let mut answer = [KEPT; 3];
+    let returned = library::house_stretches(file, cut, point, words, &mut answer);
+    portion(returned, answer)
 }
 
 pub fn dual_open(file: &[u8]) -> Result<dual::Opened, Refusal> {
-    let mut answer = [KEPT; 10];
-    let number = library::dual_open(file, &mut answer);
-    let [_, parameter, year, month, day, hour, minute, second, site, cuts] = answered(number, answer, KEPT)?;
+    let mut answer = [KEPT; 9];
+    let returned = library::dual_open(file, &mut answer);
+    let [parameter, year, month, day, hour, minute, second, site, cuts] = answered(returned, answer, KEPT)?;
     Ok(dual::Opened { parameter, time: [year, month, day, hour, minute, second], site, cuts: size(cuts) })
 }
 
 pub fn dual_cut(file: &[u8], cut: usize) -> Result<Circle, Refusal> {
-    let mut answer = [KEPT_SIGNED; 7];
-    let number = library::dual_cut(file, cut, &mut answer);
-    let [_, words @ ..] = answered(number, answer, KEPT_SIGNED)?;
-    Ok(circle(words))
+    let mut answer = [KEPT_SIGNED; 6];
+    let returned = library::dual_cut(file, cut, &mut answer);
+    answered(returned, answer, KEPT_SIGNED).map(circle)
 }
 
 pub fn dual_bin_value(file: &[u8], cut: usize, ray: usize, of_ray: usize) -> Result<Option<u64>, Refusal> {
-    let (mut value, mut answer) = (f64::from_bits(KEPT), [KEPT; 2]);
-    let number = library::dual_bin_value(file, cut, ray, of_ray, &mut value, &mut answer);
-    bin(number, value, answer)
+    let (mut value, mut answer) = (f64::from_bits(KEPT), [KEPT]);
+    let returned = library::dual_bin_value(file, cut, ray, of_ray, &mut value, &mut answer);
+    bin(returned, value, answer)
 }

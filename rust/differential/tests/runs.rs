@@ -1,8 +1,10 @@
 //! Run check, run read and run write against the independent reader.
 use differential::compare::{run_check, run_read, run_write};
+use differential::ours;
 use reference::numbers::Numbers;
 use reference::runs::{write_run, MOST_LEVELS};
 use reference::shapes::pack_loosely;
+use reference::Refusal;
 
 /// Run check and run read at room for what is wanted, one less and somewhat more.
 fn reads(octets: &[u8], v: u8, n: usize) -> Result<(), u32> {
@@ -47,6 +49,20 @@ fn checked_examples_of_writing() {
     assert_eq!(run_write(&[1, 253, 1], 9).map_err(|r| r.number), Err(10));
     assert_eq!(run_write(&[253], 0).map_err(|r| r.number), Err(10));
     assert_eq!(run_write(&[], 0).map(|written| written.octets), Ok(0));
+}
+
+/// V comes in with 64 bits: one that an octet would hold as another number is refused, and nothing lent changes.
+#[test]
+fn a_v_of_more_bits_is_no_other_v() {
+    let octets = [3, 11, 12];
+    assert_eq!(ours::run_check(&octets, 10, 246), Ok(()));
+    for v in [254, 256, 256 + 10, 1 << 32, (1 << 32) + 10, u64::MAX] {
+        let refused = Err(Refusal { number: 12, place: 0 });
+        assert_eq!(ours::run_check(&octets, v, 246), refused, "V {v}");
+        let mut levels = [7; 246];
+        assert_eq!(ours::run_read(&octets, v, 246, &mut levels), refused, "V {v}");
+        assert_eq!(levels, [7; 246], "V {v}");
+    }
 }
 
 /// The order 12, 10, 11, 8: each with all that come after it.
@@ -185,7 +201,7 @@ fn written_and_read(levels: &[u8]) {
     let mut octets = vec![0; written.octets];
     differential::ours::run_write(levels, &mut octets).unwrap();
     let mut back = vec![0xEE; levels.len()];
-    differential::ours::run_read(&octets, written.v, levels.len(), &mut back).unwrap();
+    differential::ours::run_read(&octets, written.v.into(), levels.len(), &mut back).unwrap();
     assert!(back == levels, "written levels read back as others");
 }
 

@@ -1,6 +1,7 @@
 //! Stretches and the house form against the independent reader.
 use differential::compare::Compared;
 use differential::made::FAR;
+use differential::ours;
 use reference::maker::{document_sample, CutPlan, Plan};
 use reference::numbers::Numbers;
 use reference::published::Product;
@@ -8,6 +9,7 @@ use reference::runs::MOST_LEVELS;
 use reference::shapes::{random_cut, random_plan};
 use reference::spoil::spoil;
 use reference::stretches::HOUSE_THRESHOLD;
+use reference::Refusal;
 
 const ENDS: [i32; 7] = [-32767, -7000, -1, 0, 1, 8016, 32767];
 
@@ -24,6 +26,21 @@ fn all_points_and_rooms(compared: &Compared, cut: usize, t: i32) {
 fn every_room(compared: &Compared, cut: usize, t: i32) {
     for room in 4..=4 * compared.list(cut, t).len() + 4 {
         compared.fetched(cut, t, room);
+    }
+}
+
+/// T comes in with 64 bits: one that fewer would hold as another threshold is refused, after the file's own refusals, and nothing
+/// lent changes.
+#[test]
+fn a_threshold_of_more_bits_is_no_other_threshold() {
+    let file = document_sample().file();
+    let house = i64::from(HOUSE_THRESHOLD);
+    for t in [32768, -32768, (1 << 16) + house, (1 << 32) + house, house - (1 << 32), i64::MIN, i64::MAX] {
+        let mut words = [7; 40];
+        let refused = |number| Err(Refusal { number, place: 0 });
+        assert_eq!(ours::stretches(&file, 0, t, (0, 0), &mut words), refused(10), "T {t}");
+        assert_eq!(ours::stretches(&file[1..], 0, t, (0, 0), &mut words), refused(2), "T {t}");
+        assert_eq!(words, [7; 40], "T {t}");
     }
 }
 

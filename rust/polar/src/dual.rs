@@ -112,10 +112,9 @@ impl<'a> File<'a> {
     /// # Ok::<(), polar::Refusal>(())
     /// ```
     pub fn open(octets: &'a [u8]) -> Result<File<'a>, Refusal> {
-        let mut answer = [0; 10];
-        let number = polar_sys::dual_open(octets, &mut answer);
-        Refusal::check(number, answer[0])?;
-        let [_, parameter, year, month, day, hour, minute, second, site, cuts] = answer;
+        let mut answer = [0; 9];
+        Refusal::check(polar_sys::dual_open(octets, &mut answer))?;
+        let [parameter, year, month, day, hour, minute, second, site, cuts] = answer;
         let time = Time::of_words([year, month, day, hour, minute, second]);
         Ok(File { octets: Octets(octets), parameter: Parameter(parameter as u8), time, site: site as u16, cuts: cuts as usize })
     }
@@ -147,10 +146,8 @@ impl<'a> File<'a> {
 
     /// The cut of this index, counted from 0; [`Reason::Argument`](crate::Reason::Argument) where there is none.
     pub fn cut(&self, index: usize) -> Result<Cut<'a>, Refusal> {
-        let mut answer = [0; 7];
-        let number = polar_sys::dual_cut(self.octets(), index, &mut answer);
-        Refusal::check(number, answer[0] as u64)?;
-        let [_, grid @ ..] = answer;
+        let mut grid = [0; 6];
+        Refusal::check(polar_sys::dual_cut(self.octets(), index, &mut grid))?;
         Ok(Cut { file: *self, index, grid: Grid::of_words(grid) })
     }
 
@@ -211,10 +208,9 @@ impl<'a> Cut<'a> {
     /// # Ok::<(), polar::Refusal>(())
     /// ```
     pub fn bin_value(&self, ray: usize, bin: usize) -> Result<Bin<f64>, Refusal> {
-        let (mut value, mut answer) = (f64::NAN, [0; 2]);
-        let number = polar_sys::dual_bin_value(self.file.octets(), self.index, ray, bin, &mut value, &mut answer);
-        Refusal::check(number, answer[0])?;
-        Ok(Bin::of_mark(answer[1], value))
+        let (mut value, mut answer) = (f64::NAN, [0]);
+        Refusal::check(polar_sys::dual_bin_value(self.file.octets(), self.index, ray, bin, &mut value, &mut answer))?;
+        Ok(Bin::of_mark(answer[0], value))
     }
 
     /// One ray; [`Reason::Argument`](crate::Reason::Argument) where there is none of this index.

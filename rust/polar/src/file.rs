@@ -91,10 +91,9 @@ impl<'a> File<'a> {
     /// # Ok::<(), polar::Refusal>(())
     /// ```
     pub fn open(octets: &'a [u8]) -> Result<File<'a>, Refusal> {
-        let mut answer = [0; 10];
-        let number = polar_sys::open(octets, &mut answer);
-        Refusal::check(number, answer[0])?;
-        let [_, product, year, month, day, hour, minute, second, site, cuts] = answer;
+        let mut answer = [0; 9];
+        Refusal::check(polar_sys::open(octets, &mut answer))?;
+        let [product, year, month, day, hour, minute, second, site, cuts] = answer;
         let time = Time::of_words([year, month, day, hour, minute, second]);
         let product = if product == 1 { Product::Reflectivity } else { Product::Velocity };
         Ok(File { octets: Octets(octets), product, time, site: site as u16, cuts: cuts as usize })
@@ -127,10 +126,9 @@ impl<'a> File<'a> {
 
     /// The cut of this index, counted from 0; [`Reason::Argument`](crate::Reason::Argument) where there is none.
     pub fn cut(&self, index: usize) -> Result<Cut<'a>, Refusal> {
-        let mut answer = [0; 11];
-        let number = polar_sys::cut(self.octets(), index, &mut answer);
-        Refusal::check(number, answer[0] as u64)?;
-        let [_, bins, rays, latitude, longitude, spacing, start, azimuth, mode, known, elevation] = answer;
+        let mut answer = [0; 10];
+        Refusal::check(polar_sys::cut(self.octets(), index, &mut answer))?;
+        let [bins, rays, latitude, longitude, spacing, start, azimuth, mode, known, elevation] = answer;
         Ok(Cut {
             file: *self,
             index,
@@ -212,11 +210,7 @@ impl<'a> Cut<'a> {
     /// # Ok::<(), polar::Refusal>(())
     /// ```
     pub fn ray(&self, index: usize) -> Result<Ray<Hundredths>, Refusal> {
-        self.ray_by(index, |marks, values| {
-            let mut place = [0];
-            let number = polar_sys::ray_values(self.file.octets(), self.index, index, marks, values, &mut place);
-            Refusal::check(number, place[0])
-        })
+        self.ray_by(index, |marks, values| Refusal::check(polar_sys::ray_values(self.file.octets(), self.index, index, marks, values)))
     }
 
     /// One ray, of the marks and values that a call fills in.
@@ -230,9 +224,7 @@ impl<'a> Cut<'a> {
     /// The levels of one ray, as they stand in the file; level 0 is missing.
     pub fn ray_levels(&self, index: usize) -> Result<Vec<u8>, Refusal> {
         let mut levels = vec![0; self.grid.bins];
-        let mut place = [0];
-        let number = polar_sys::ray_levels(self.file.octets(), self.index, index, &mut levels, &mut place);
-        Refusal::check(number, place[0])?;
+        Refusal::check(polar_sys::ray_levels(self.file.octets(), self.index, index, &mut levels))?;
         Ok(levels)
     }
 
@@ -305,10 +297,9 @@ impl<'a> Cut<'a> {
     /// # Ok::<(), polar::Refusal>(())
     /// ```
     pub fn bin_value(&self, ray: usize, bin: usize) -> Result<Bin<f64>, Refusal> {
-        let (mut value, mut answer) = (f64::NAN, [0; 2]);
-        let number = polar_sys::bin_value(self.file.octets(), self.index, ray, bin, &mut value, &mut answer);
-        Refusal::check(number, answer[0])?;
-        Ok(Bin::of_mark(answer[1], value))
+        let (mut value, mut answer) = (f64::NAN, [0]);
+        Refusal::check(polar_sys::bin_value(self.file.octets(), self.index, ray, bin, &mut value, &mut answer))?;
+        Ok(Bin::of_mark(answer[0], value))
     }
 
     /// Every longest stretch of one kind on each ray, by ray and then by first bin.

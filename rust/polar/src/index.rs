@@ -38,9 +38,7 @@ pub use polar_sys::RayRecord;
 /// A record for each ray of a cut of an accepted file, at the front of `records`;
 /// [`Reason::Room`](crate::Reason::Room) where these are fewer than its rays.
 pub fn records(octets: &[u8], cut: usize, records: &mut [RayRecord]) -> Result<(), Refusal> {
-    let mut place = [0];
-    let number = polar_sys::build_index(octets, cut, records, &mut place);
-    Refusal::check(number, place[0])
+    Refusal::check(polar_sys::build_index(octets, cut, records))
 }
 
 /// The levels of a ray from a record on, at the front of `levels`, as many as a ray has bins; level 0 is missing.
@@ -48,9 +46,7 @@ pub fn records(octets: &[u8], cut: usize, records: &mut [RayRecord]) -> Result<(
 /// Where the file, but for its data, is refused, or there is no such cut or ray, or too little room, that refusal comes
 /// first; then [`Reason::Record`](crate::Reason::Record). The ray takes no other part.
 pub fn ray_levels(octets: &[u8], cut: usize, ray: usize, record: RayRecord, levels: &mut [u8]) -> Result<(), Refusal> {
-    let mut place = [0];
-    let number = polar_sys::ray_levels_from(octets, cut, ray, record, levels, &mut place);
-    Refusal::check(number, place[0])
+    Refusal::check(polar_sys::ray_levels_from(octets, cut, ray, record, levels))
 }
 
 /// The same bins as marks, 0 missing and 1 measured, at the front of `marks`, and at each measured place the value in
@@ -66,7 +62,5 @@ pub fn ray_levels(octets: &[u8], cut: usize, ray: usize, record: RayRecord, leve
 /// # Ok::<(), polar::Refusal>(())
 /// ```
 pub fn ray_values(octets: &[u8], cut: usize, ray: usize, record: RayRecord, marks: &mut [u8], values: &mut [i32]) -> Result<(), Refusal> {
-    let mut place = [0];
-    let number = polar_sys::ray_values_from(octets, cut, ray, record, marks, values, &mut place);
-    Refusal::check(number, place[0])
+    Refusal::check(polar_sys::ray_values_from(octets, cut, ray, record, marks, values))
 }

@@ -96,13 +96,14 @@ pub struct Refusal {
 }
 
 impl Refusal {
-    /// The refusal that the library answered, if it did.
-    pub(crate) fn check(number: u32, place: u64) -> Result<(), Refusal> {
-        if number == 0 {
+    /// The refusal that a call of the library returned, if it did.
+    pub(crate) fn check(returned: u64) -> Result<(), Refusal> {
+        if returned == 0 {
             return Ok(());
         }
+        let number = polar_sys::number(returned);
         let reason = *Reason::ALL.iter().find(|reason| reason.number() == number).expect("a refusal's number");
-        Err(Refusal { reason, place })
+        Err(Refusal { reason, place: polar_sys::place(returned) })
     }
 
     /// Why.
@@ -137,8 +138,10 @@ mod tests {
     fn numbers_and_reasons_belong_together() {
         for (reason, number) in Reason::ALL.iter().copied().zip(1..) {
             assert_eq!(reason.number(), number);
-            assert_eq!(Refusal::check(number, 7), Err(Refusal { reason, place: 7 }));
+            for place in [0, 7, 255, 256, 8_388_608] {
+                assert_eq!(Refusal::check(u64::from(number) + 256 * place), Err(Refusal { reason, place }));
+            }
         }
-        assert_eq!(Refusal::check(0, 0), Ok(()));
+        assert_eq!(Refusal::check(0), Ok(()));
     }
 }

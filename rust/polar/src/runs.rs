@@ -20,7 +20,7 @@ pub struct Packed {
 /// assert_eq!(polar::runs::check(&[3, 11, 12], 10, 245).unwrap_err().number(), 8);
 /// ```
 pub fn check(octets: &[u8], v: u8, n: usize) -> Result<(), Refusal> {
-    Refusal::check(polar_sys::run_check(octets, v, n), 0)
+    Refusal::check(polar_sys::run_check(octets, v.into(), n))
 }
 
 /// The `n` levels that octets give under `v`.
@@ -32,9 +32,7 @@ pub fn check(octets: &[u8], v: u8, n: usize) -> Result<(), Refusal> {
 pub fn read(octets: &[u8], v: u8, n: usize) -> Result<Vec<u8>, Refusal> {
     // where n is over the limit the call is refused before it looks at the room
     let mut levels = vec![0; if n > MOST_LEVELS { 0 } else { n }];
-    let mut place = [0];
-    let number = polar_sys::run_read(octets, v, n, &mut levels, &mut place);
-    Refusal::check(number, place[0])?;
+    Refusal::check(polar_sys::run_read(octets, v.into(), n, &mut levels))?;
     Ok(levels)
 }
 
@@ -49,10 +47,9 @@ pub fn read(octets: &[u8], v: u8, n: usize) -> Result<Vec<u8>, Refusal> {
 pub fn write(levels: &[u8]) -> Result<Packed, Refusal> {
     // octets are never more than the levels they stand for: a run of n bins takes at most n
     let mut octets = vec![0; levels.len()];
-    let mut answer = [0; 3];
-    let number = polar_sys::run_write(levels, &mut octets, &mut answer);
-    let [place, v, length] = answer;
-    Refusal::check(number, place)?;
+    let mut answer = [0; 2];
+    Refusal::check(polar_sys::run_write(levels, &mut octets, &mut answer))?;
+    let [v, length] = answer;
     octets.truncate(length as usize);
     Ok(Packed { v: v as u8, octets })
 }

@@ -102,11 +102,11 @@ impl<'a> Stretches<'a> {
 
     /// The portion from `point` on. A cut of an accepted file, a threshold and a point of its own: nothing is refused.
     fn fetch(&mut self) {
-        let mut answer = [0; 4];
-        let t = self.threshold.hundredths().0;
-        let number = polar_sys::stretches(self.cut.file().octets(), self.cut.index(), t, self.point, &mut self.words, &mut answer);
-        let [place, count, ray, bin] = answer;
-        Refusal::check(number, place).expect("a portion of an accepted file's list");
+        let mut answer = [0; 3];
+        let t = self.threshold.hundredths().0.into();
+        let returned = polar_sys::stretches(self.cut.file().octets(), self.cut.index(), t, self.point, &mut self.words, &mut answer);
+        let [count, ray, bin] = answer;
+        Refusal::check(returned).expect("a portion of an accepted file's list");
         (self.at, self.end, self.point) = (0, ENTRY * count as usize, (ray as usize, bin as usize));
     }
 }

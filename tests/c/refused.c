@@ -1,0 +1,102 @@
+/* On a refusal not one octet of what was lent has changed, in any call. The paths of samples/document01.bin and
+   samples/dual.bin are the arguments. */
+#include "check.h"
+#include "polar.h"
+#include "sample.h"
+
+#include <string.h>
+
+static uint8_t dual[65536];
+static size_t dual_len;
+
+/* All that may be lent to a call, and what it held before. */
+typedef struct {
+    uint64_t run[POLAR_RUN_WORDS], opened[POLAR_OPEN_WORDS], bin[POLAR_BIN_WORDS], list[POLAR_LIST_WORDS];
+    int64_t cut[POLAR_CUT_WORDS], dual_cut[POLAR_DUAL_CUT_WORDS];
+    polar_ray_record records[2];
+    double value;
+    uint32_t words[32];
+    int32_t values[8];
+    uint8_t levels[8], octets[8], marks[8];
+} memory;
+
+static memory lent, before;
+
+/* A pattern in every octet; the float holds a NaN with bits of its own. */
+static void fill(void)
+{
+    const uint64_t nan_bits = UINT64_C(0x7FF8000000000A5A);
+
+    memset(&lent, 0xA5, sizeof lent);
+    memcpy(&lent.value, &nan_bits, sizeof nan_bits);
+    memcpy(&before, &lent, sizeof lent);
+}
+
+/* The call returned this refusal, and all that was lent is as it was. */
+#define REFUSES(call, refusal)                               \
+    do {                                                     \
+        CHECK((call) == (refusal));                          \
+        CHECK(memcmp(&lent, &before, sizeof before) == 0);   \
+    } while (0)
+
+static void runs(void)
+{
+    const uint8_t octets[] = {3, 11};
+
+    REFUSES(polar_run_read(octets, 2, 256 + 10, 2, lent.levels, 8), POLAR_V);
+    REFUSES(polar_run_read(octets, 2, 10, SIZE_MAX, lent.levels, 8), POLAR_ARGUMENT);
+    REFUSES(polar_run_read(octets, 2, 10, 9, lent.levels, 8), POLAR_ROOM);
+    REFUSES(polar_run_read(octets, 2, 10, 2, lent.levels, 8), POLAR_DATA);
+    REFUSES(polar_run_write((const uint8_t *)"\375", 1, lent.octets, 8, lent.run), POLAR_ARGUMENT);
+    REFUSES(polar_run_write(octets, 2, lent.octets, 1, lent.run), POLAR_ROOM);
+}
+
+/* Every call on `size` octets of the sample, with an argument that is out of range and with too little room. */
+static void files(size_t size, uint64_t argument, uint64_t room)
+{
+    REFUSES(polar_cut(file, size, 1, lent.cut), argument);
+    REFUSES(polar_ray_levels(file, size, 0, 2, lent.levels, 8), argument);
+    REFUSES(polar_ray_levels(file, size, 0, 1, lent.levels, 4), room);
+    REFUSES(polar_ray_values(file, size, 0, 2, lent.marks, 8, lent.values, 8), argument);
+    REFUSES(polar_ray_values(file, size, 0, 1, lent.marks, 8, lent.values, 4), room);
+    REFUSES(polar_ray_values(file, size, 0, 1, lent.marks, 4, lent.values, 8), room);
+    REFUSES(polar_build_index(file, size, 1, lent.records, 2), argument);
+    REFUSES(polar_build_index(file, size, 0, lent.records, 1), room);
+    REFUSES(polar_ray_levels_from(file, size, 0, 2, 0, 0, lent.levels, 8), argument);
+    REFUSES(polar_ray_levels_from(file, size, 0, 0, 0, 0, lent.levels, 4), room);
+    REFUSES(polar_ray_values_from(file, size, 0, 2, 0, 0, lent.marks, 8, lent.values, 8), argument);
+    REFUSES(polar_ray_values_from(file, size, 0, 0, 0, 0, lent.marks, 4, lent.values, 8), room);
+    REFUSES(polar_bin_value(file, size, 0, 0, 5, &lent.value, lent.bin), argument);
+    REFUSES(polar_stretches(file, size, 0, 32768, 0, 0, lent.words, 32, lent.list), argument);
+    REFUSES(polar_stretches(file, size, 0, 4000, 0, 0, lent.words, 3, lent.list), room);
+    REFUSES(polar_house_stretches(file, size, 0, 3, 0, lent.words, 32, lent.list), argument);
+    REFUSES(polar_house_stretches(file, size, 0, 0, 0, lent.words, 3, lent.list), room);
+}
+
+int main(int argc, char **argv)
+{
+    if (argc < 3 || !read_sample(2, argv + 1))
+        return 2;
+    memcpy(dual, file, len);
+    dual_len = len;
+    if (!read_sample(argc, argv))
+        return 2;
+    fill();
+    runs();
+    files(len, POLAR_ARGUMENT, POLAR_ROOM);
+    files(len - 1, POLAR_SECTION_0, POLAR_SECTION_0);
+    REFUSES(polar_open(file, len - 1, lent.opened), POLAR_SECTION_0);
+    /* the month of section 1, which begins at 16: a refusal with a place */
+    file[16 + 14] = 13;
+    files(len, REFUSED(POLAR_FIELD, 16), REFUSED(POLAR_FIELD, 16));
+    REFUSES(polar_open(file, len, lent.opened), REFUSED(POLAR_FIELD, 16));
+
+    REFUSES(polar_dual_open(dual, dual_len - 1, lent.opened), POLAR_SECTION_0);
+    REFUSES(polar_dual_cut(dual, dual_len, 2, lent.dual_cut), POLAR_ARGUMENT);
+    REFUSES(polar_dual_bin_value(dual, dual_len, 2, 0, 0, &lent.value, lent.bin), POLAR_ARGUMENT);
+    dual[16 + 14] = 13;
+    REFUSES(polar_dual_open(dual, dual_len, lent.opened), REFUSED(POLAR_FIELD, 16));
+    REFUSES(polar_dual_cut(dual, dual_len, 0, lent.dual_cut), REFUSED(POLAR_FIELD, 16));
+    REFUSES(polar_dual_bin_value(dual, dual_len, 0, 0, 0, &lent.value, lent.bin), REFUSED(POLAR_FIELD, 16));
+    return checks_failed != 0;
+}
