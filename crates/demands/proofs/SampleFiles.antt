@@ -127,7 +127,7 @@ abbrev pub wind : List ℕ
 wind = file 680 (three 4 4 1 35859722 0 ++ four 2 47695 130 1 ++ five 4 251 251 velocityTable ++ rest (158 ∷ 160 ∷ 161 ∷ 0 ∷ []))
 
 -- two cuts, each with a section 3 of its own: one ray of two bins at latitude -0.000005, of 5.60 dBZ and no data, its elevation missing; three rays of one bin at latitude
--- 0.000007, its elevation -0.05. With what may be spoiled: the second cut's parameter and site
+-- 0.000007, of 39.84 dBZ, 40.16 dBZ and no data, its elevation -0.05. With what may be spoiled: the second cut's parameter and site
 abbrev pub likeTwo : ℕ → ℕ → List ℕ
 likeTwo parameter site =
     file 1328
@@ -138,7 +138,7 @@ likeTwo parameter site =
     ++ three 3 1 3 7 0
     ++ four parameter site 0x8005 3
     ++ five 3 252 252 reflectivityTable
-    ++ rest (3 ∷ 5 ∷ 7 ∷ []))
+    ++ rest (126 ∷ 127 ∷ 0 ∷ []))
 
 abbrev pub twoCuts : List ℕ
 twoCuts = likeTwo 1 47695

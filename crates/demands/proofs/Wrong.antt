@@ -202,6 +202,19 @@ wind-list r words p =
           ∙ ap (λ (v : Verdict). outOf lent (stretchesIn wind (cutAt 0 v) house 0 0)) (verdicts .wind-is),
     )
 
+-- another house threshold; the bins of the first cut for every cut (39.84 dBZ is under 4000, and 40.16 dBZ over it)
+pub second-cut-list : (r : StretchAnswer) (words : List ℕ) → StretchesPromise twoCuts 1 house 0 0 (replicate 12 99) r words
+    → (r ≡ S.Listed (record { count = 3; ray = 3; bin = 0 })) × (words ≡ 0 ∷ 0 ∷ 1 ∷ 1 ∷ 1 ∷ 0 ∷ 1 ∷ 2 ∷ 2 ∷ 0 ∷ 1 ∷ 0 ∷ [])
+unfolding inOctets tableOctets octetsOf signMagnitude tableOf valuesFrom published reflectivity velocityEven velocity levelCount stretchAnswer wordsAfter onCut cutAt stretchesOn rightT rightPoint stretchesIn stretchesFrom answerOf outOf wordsOf listFrom beginsAfter unbroken fromPlace readingOf kindOf productIn productOf parameterAt greatestIn dataAt levels digitSum binsIn raysIn lengthAt binsAt raysAt greatestAt field be
+second-cut-list r words p =
+    let lent : List ℕ = replicate 12 99 in
+    let w : r ≡ S.Listed (record { count = 3; ray = 3; bin = 0 }) = p .answer ∙ ap (onCut S.Refused (stretchesOn twoCuts house 0 0 12) 1) (verdicts .two-are) in (
+      w,
+      p .after
+          ∙ ap (λ (a : StretchAnswer). wordsAfter a twoCuts 1 house 0 0 lent) w
+          ∙ ap (λ (v : Verdict). outOf lent (stretchesIn twoCuts (cutAt 1 v) house 0 0)) (verdicts .two-are),
+    )
+
 -- FORMAT.md, "The lister", cut 0: a stretch carried over a ray's end, two stretches for two levels of one kind, a fixed list, ray 0 repeated, a count made up. Room for
 -- three entries: the next point is the start of the fourth
 pub document-list : (r : StretchAnswer) (words : List ℕ) → StretchesPromise document 0 house 0 0 (replicate 12 99) r words
