@@ -1,4 +1,4 @@
--- Document 01, "Calls" and "Refusal numbers": what run read and run check answer, and what the lent levels then hold.
+-- FORMAT.md, "Calls" and "Refusals": what run read and run check answer, and what the lent levels then hold.
 use Prim.Native.Nat.{ℕ, _≤_}
 use mathlib.Core.Path.{_≡_}
 use mathlib.Core.List.{List}

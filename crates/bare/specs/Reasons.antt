@@ -1,4 +1,4 @@
--- Why the calls without a file refuse, in document 01's order: "Run read: 12, 10, 11, 8. Run write: 10, 11."
+-- Why the calls without a file refuse, in FORMAT.md's order: "Run read: 12, 10, 11, 8. Run write: 10, 11."
 use Prim.Native.Nat.{ℕ, _≤_, _<_}
 use mathlib.Core.List.{List}
 use lib.ListN.{length}

@@ -1,4 +1,4 @@
--- Document 01, "Calls" and "Refusal numbers": what run write answers, and what the lent octets then hold.
+-- FORMAT.md, "Calls" and "Refusals": what run write answers, and what the lent octets then hold.
 use Prim.Native.Nat.{ℕ, _≤_}
 use mathlib.Core.Path.{_≡_}
 use mathlib.Core.List.{List}

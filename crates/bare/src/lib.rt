@@ -1,10 +1,10 @@
-// THE CALLS without a file: run read, run check, run write (document 01, "Calls"). Nothing here asks anything of its caller: what is out of range is
-// refused, by document 01's numbers. Below stand `runs`, which reads, and `packing`, which writes; above stand the calls for C and Rust.
+// THE CALLS without a file: run read, run check, run write (FORMAT.md, "Calls"). Nothing here asks anything of its caller: what is out of range is
+// refused, by FORMAT.md's numbers. Below stand `runs`, which reads, and `packing`, which writes; above stand the calls for C and Rust.
 use runs::Scan;
 ghost use Rattle.bare.specs.Read.{ReadPromise, CheckPromise};
 ghost use Rattle.bare.specs.Write.{WritePromise};
 
-// Why run read refuses, a case for each of document 01's numbers: 12, 10, 11, 8.
+// Why run read refuses, a case for each of its numbers in FORMAT.md, "Refusals": 12, 10, 11, 8.
 pub enum ReadRefusal {
     V,
     Argument,
@@ -68,7 +68,7 @@ pub fn run_check(octets: &[u8], v: u8, n: usize) -> RunCheck
     }
 }
 
-// Why run write refuses, a case for each of document 01's numbers: 10 (too many levels, or a level over 252) and 11.
+// Why run write refuses, a case for each of its numbers in FORMAT.md, "Refusals": 10 (too many levels, or a level over 252) and 11.
 pub enum WriteRefusal {
     Argument,
     Room,

@@ -1,4 +1,4 @@
--- Document 01, "Sections", as it stands there: what a run-length packed file is, with no word on the order of checks. Of a section its octets count, and
+-- FORMAT.md, "Sections", as it stands there: what a run-length packed file is, with no word on the order of checks. Of a section its octets count, and
 -- not the place where they stand.
 use Prim.Native.Nat.{ℕ, _+_, _*_, _≤_}
 use mathlib.Core.Path.{_≡_}
@@ -44,7 +44,7 @@ baseFormat = record { Three = Section3; Four = Section4; Five = Section5; Seven 
 abbrev pub Accepted : List ℕ → List Cut → Type 0
 Accepted = AcceptedBy baseFormat
 
--- Wish 4: the same where the data may be anything. It differs from `Accepted` in section 7 alone, whose octets need only be there
+-- FORMAT.md, "Rays by a record": the same where the data may be anything. It differs from `Accepted` in section 7 alone, whose octets need only be there
 pub record AnyDataSection7 (s3 s5 s7 : List ℕ) : Type 0 where
   pub long : 6 ≤ length s7
 

@@ -1,4 +1,4 @@
--- Document 01, "Refusal numbers" and "Order in a file": the checks of sections 3, 4, 5 and 7, in the document's order: 4, 5, 6, 7, 8.
+-- FORMAT.md, "Refusals" and "Order of checks": the checks of sections 3, 4, 5 and 7, in that order: 4, 5, 6, 7, 8.
 -- (12 stands before 8: a file call passes on what run reading answers.)
 use Prim.Native.Nat.{ℕ, _+_, _*_}
 use mathlib.Core.List.{List, [], _∷_}
@@ -56,7 +56,7 @@ baseChecks s x at n =
     (cond (eqb n 5) (checks5 s x at)
     (cond (eqb n 7) (checks7 s x at) [])))
 
--- Wish 4: "every file check but 8", which is the last
+-- FORMAT.md, "Rays by a record": "every file check but 8", which is the last
 abbrev pub anyDataChecks7 : List ℕ → Context → ℕ → List Check
 anyDataChecks7 s x at = take 2 (checks7 s x at)
 

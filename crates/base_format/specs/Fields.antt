@@ -1,4 +1,4 @@
--- Document 01, "Sections": this format's own fields that other sections and the calls go by, each by the place of its section.
+-- FORMAT.md, "Sections": this format's own fields that other sections and the calls go by, each by the place of its section.
 use Prim.Native.Nat.{ℕ}
 use mathlib.Core.List.{List}
 use Rattle.rules.specs.Rules.{field}

@@ -1,4 +1,4 @@
--- Document 01, "Sections": the parts of a file that are judged octet for octet, and what a cut is made of.
+-- FORMAT.md, "Sections": the parts of a file that are judged octet for octet, and what a cut is made of.
 use Prim.Native.Nat.{ℕ, _+_, _*_, _-_}
 use mathlib.Core.List.{List}
 use mathlib.Core.Bool.{cond}

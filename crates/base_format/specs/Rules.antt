@@ -1,4 +1,4 @@
--- Document 01, "Sections": the rules on the named fields of sections 3, 4 and 5, in the document's order and with its numbers.
+-- FORMAT.md, "Sections": the rules on the named fields of sections 3, 4 and 5, in its order and with its numbers.
 use Prim.Native.Nat.{ℕ}
 use mathlib.Core.List.{List, [], _∷_, _++_}
 use Rattle.rules.specs.Rules.{Rule, within, magnitude, either, is, gridRules, modeRule}

@@ -16,6 +16,6 @@ RefusedBy = R.RefusedBy baseChecks
 abbrev pub RefusedAt : List ℕ → ℕ → ℕ → Type 0
 RefusedAt = R.RefusedAt baseChecks
 
--- Wish 4: the verdict that leaves 8 out
+-- FORMAT.md, "Rays by a record": the verdict that leaves 8 out
 abbrev pub anyDataVerdict : List ℕ → Verdict
 anyDataVerdict = verdictBy anyDataChecks

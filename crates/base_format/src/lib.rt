@@ -1,4 +1,4 @@
-// Run-length packed files: document 01, "Sections", of sections 3, 4, 5 and 7, which are this format's own. Below it stand `sections` (what every
+// Run-length packed files: FORMAT.md, "Sections", of sections 3, 4, 5 and 7, which are this format's own. Below it stand `sections` (what every
 // file has), `rules` (the fields of each section), `runs` (the data) and `values` (the value table); above it `walks`, which walks over a file.
 //
 // What is to be believed stands in specs/Accepted.antt, by the octets of each section, and in specs/Checks.antt, by places and in the order of checks,

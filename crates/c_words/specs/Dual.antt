@@ -1,4 +1,4 @@
--- How the calls of a dual-polarisation file answer by C's rules: as those of document 01's files do.
+-- How the calls of a dual-polarisation file answer by C's rules: as those of the base format's files do.
 use Prim.Native.Nat.{ℕ}
 use mathlib.Core.List.{List, []}
 use lib.Seq.{sets}

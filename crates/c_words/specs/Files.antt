@@ -4,8 +4,7 @@ use mathlib.Core.List.{List, [], _∷_}
 use lib.Seq.{sets}
 use lib.IntN.{ℤ, pos}
 use lib.Ieee.{Float}
-use Rattle.values.specs.declared.Product.{Product}
-use Rattle.values.specs.declared.Product.the-variants.{Reflectivity, Velocity}
+use Rattle.base_format.specs.Parts.{productNumber}
 use Rattle.sections.specs.declared.Time.{Time}
 use Rattle.sections.specs.declared.Grid.{Grid}
 use Rattle.polar.specs.declared.Opened.{Opened}
@@ -24,11 +23,6 @@ use Rattle.polar.specs.declared.StretchAnswer.the-variants as S
 use Rattle.c_words.specs.Word.{wordOf}
 
 -- ---- open
-
--- parameter 1 or 2
-abbrev pub productNumber : Product → ℕ
-productNumber Reflectivity = 1
-productNumber Velocity = 2
 
 abbrev pub openReturn : Opened → ℕ
 openReturn (O.File f) = 0

@@ -9,7 +9,7 @@ ghost use lib.Seq.{sets};
 ghost use Rattle.c_words.specs.Word.{wordOf, InWord};
 ghost use Rattle.c_words.specs.Arguments.{narrowV, narrowThreshold};
 ghost use Rattle.c_words.specs.Runs.{checkReturn, readReturn, writeReturn, writeWords};
-ghost use Rattle.c_words.specs.Files.{productNumber, summaryWords, gridWords, openReturn, openWords, elevationWords, infoWords, cutReturn, cutWords, rayReturn, binReturn, binWords, binHeld, stretchReturn, stretchWords};
+ghost use Rattle.c_words.specs.Files.{summaryWords, gridWords, openReturn, openWords, elevationWords, infoWords, cutReturn, cutWords, rayReturn, binReturn, binWords, binHeld, stretchReturn, stretchWords};
 ghost use Rattle.c_words.specs.Dual.{dualOpenReturn, dualOpenWords, dualCutReturn, dualCutWords};
 use bare::CheckRefusal;
 use bare::ReadRefusal;
@@ -29,7 +29,6 @@ use polar::StretchAnswer;
 use sections::Grid;
 use sections::Refusal;
 use sections::Time;
-use values::Product;
 
 // ---- arguments
 
@@ -129,15 +128,6 @@ pub fn put_write(answer: RunWrite, words: &mut [u64; 2]) -> u64
     }
 }
 
-fn product_number(product: Product) -> u64
-    ensures { λ r. ⌜ r ≡ productNumber product ⌝ }
-{
-    match product {
-        Product::Reflectivity => 1,
-        Product::Velocity => 2,
-    }
-}
-
 // Of both formats' open: product or parameter, year, month, day, hour, minute, second, site, number of cuts.
 fn put_summary(product: u64, time: Time, site: u16, cuts: usize, words: &mut [u64; 9])
     ensures { λ r. ⌜ now (words .exit) ≡ sets (now (words .entry)) 0 (summaryWords product time site cuts) ⌝ }
@@ -162,7 +152,13 @@ pub fn put_open(answer: Opened, words: &mut [u64; 9]) -> u64
         Opened::File(f) => {
             let product = f.product;
             let time = f.time;
-            put_summary(product_number(product), time, f.site, f.cuts, words);
+            put_summary(
+                base_format::product_number(product) as u64,
+                time,
+                f.site,
+                f.cuts,
+                words,
+            );
             0
         }
         Opened::Refused(refusal) => word_of(refusal),

@@ -26,7 +26,7 @@ use Rattle.calls.specs.declared.RayAnswer.the-variants as R
 use Rattle.calls.specs.declared.BinAnswer.{BinAnswer}
 use Rattle.calls.specs.declared.BinAnswer.the-variants as B
 
-module _ (own : FormatChecks) (baseFormat : Format) (exact : Exact own baseFormat) (s : List ℕ) where
+module _ (own : FormatChecks) (format : Format) (exact : Exact own format) (s : List ℕ) where
   -- ── a call on the whole file ──
 
   module _ {A : Type 0} (bad : Refusal → A) (some : ℕ → Cut → A) where
@@ -34,13 +34,13 @@ module _ (own : FormatChecks) (baseFormat : Format) (exact : Exact own baseForma
     unfolding onFile
     file-refused r h = ap (onFile bad some) (exact .refused-all s r h)
 
-    pub file-accepted : (cs : List Cut) → AcceptedBy baseFormat s cs → onFile bad some (verdictBy own s) ≡ some (length cs) (getD cs 0 noCut)
+    pub file-accepted : (cs : List Cut) → AcceptedBy format s cs → onFile bad some (verdictBy own s) ≡ some (length cs) (getD cs 0 noCut)
     unfolding onFile
     file-accepted cs h = ap (onFile bad some) (exact .accepted-all s cs h)
 
     pub by-file-verdict : (a : A) (P : Type 0)
         → ((r : Refusal) → RefusedBy own s r → bad r ≡ a → P)
-        → ((cs : List Cut) → AcceptedBy baseFormat s cs → some (length cs) (getD cs 0 noCut) ≡ a → P)
+        → ((cs : List Cut) → AcceptedBy format s cs → some (length cs) (getD cs 0 noCut) ≡ a → P)
         → onFile bad some (verdictBy own s) ≡ a → P
     unfolding onFile
     by-file-verdict a P kr ks h = go (verdictBy own s) refl h
@@ -56,19 +56,19 @@ module _ (own : FormatChecks) (baseFormat : Format) (exact : Exact own baseForma
     unfolding onCut
     cut-refused r h = ap (onCut bad some i) (exact .refused-all s r h)
 
-    pub cut-missing : (cs : List Cut) → AcceptedBy baseFormat s cs → length cs ≤ i → onCut bad some i (verdictBy own s) ≡ bad (refuse Argument 0)
+    pub cut-missing : (cs : List Cut) → AcceptedBy format s cs → length cs ≤ i → onCut bad some i (verdictBy own s) ≡ bad (refuse Argument 0)
     unfolding onCut
     cut-missing cs h le = ap (onCut bad some i) (exact .accepted-all s cs h) ∙ rw (le-ltb i (length cs) le)
 
-    pub cut-accepted : (cs : List Cut) → AcceptedBy baseFormat s cs → i < length cs → onCut bad some i (verdictBy own s) ≡ some (getD cs i noCut)
+    pub cut-accepted : (cs : List Cut) → AcceptedBy format s cs → i < length cs → onCut bad some i (verdictBy own s) ≡ some (getD cs i noCut)
     unfolding onCut
     cut-accepted cs h lt = ap (onCut bad some i) (exact .accepted-all s cs h) ∙ rw (lt-ltb i (length cs) lt)
 
     -- for each way that the verdict and the cut's number may go
     pub by-verdict : (a : A) (P : Type 0)
         → ((r : Refusal) → RefusedBy own s r → bad r ≡ a → P)
-        → ((cs : List Cut) → AcceptedBy baseFormat s cs → length cs ≤ i → bad (refuse Argument 0) ≡ a → P)
-        → ((cs : List Cut) → AcceptedBy baseFormat s cs → i < length cs → some (getD cs i noCut) ≡ a → P)
+        → ((cs : List Cut) → AcceptedBy format s cs → length cs ≤ i → bad (refuse Argument 0) ≡ a → P)
+        → ((cs : List Cut) → AcceptedBy format s cs → i < length cs → some (getD cs i noCut) ≡ a → P)
         → onCut bad some i (verdictBy own s) ≡ a → P
     unfolding onCut
     by-verdict a P kr kn ks h = go (verdictBy own s) refl h
@@ -85,14 +85,14 @@ module _ (own : FormatChecks) (baseFormat : Format) (exact : Exact own baseForma
 
   module _ {A : Type 0} (Refused : Refusal → A) (some : Cut → A) (i : ℕ) (OnCut : Cut → Refusal → Type 0) where
     pub reason : (q : Refusal) → ((p : Refusal) → Refused p ≡ Refused q → p ≡ q) → ((c : Cut) → some c ≡ Refused q → OnCut c q)
-        → onCut Refused some i (verdictBy own s) ≡ Refused q → Reason own baseFormat s i OnCut q
+        → onCut Refused some i (verdictBy own s) ≡ Refused q → Reason own format s i OnCut q
     reason q same why =
-        by-verdict Refused some i (Refused q) (Reason own baseFormat s i OnCut q)
+        by-verdict Refused some i (Refused q) (Reason own format s i OnCut q)
         (λ r k e. rw (sym (same r e)) (by-file k))
         (λ cs k le e. rw (sym (same (refuse Argument 0) e)) (no-cut k le))
         (λ cs k lt e. on-cut k lt (why (getD cs i noCut) e))
 
-    pub by-reason : (q : Refusal) → ((c : Cut) (r : Refusal) → OnCut c r → some c ≡ Refused r) → Reason own baseFormat s i OnCut q → onCut Refused some i (verdictBy own s) ≡ Refused q
+    pub by-reason : (q : Refusal) → ((c : Cut) (r : Refusal) → OnCut c r → some c ≡ Refused r) → Reason own format s i OnCut q → onCut Refused some i (verdictBy own s) ≡ Refused q
     by-reason q why (by-file h) = cut-refused Refused some i q h
     by-reason q why (no-cut {cs = cs} k le) = cut-missing Refused some i cs k le
     by-reason q why (on-cut {cs = cs} k lt w) = cut-accepted Refused some i cs k lt ∙ why (getD cs i noCut) q w

@@ -90,9 +90,9 @@ module _ (i : ℕ) (v : Verdict) where
 
 -- ── it is good, as the cuts of an accepted file are ──
 
-sought-good : (own : FormatChecks) (baseFormat : Format) (exact : Exact own baseFormat) (s : List ℕ) (P : Cut → Type 0)
-    → ((cs : List Cut) → AcceptedBy baseFormat s cs → (i : ℕ) → i < length cs → P (getD cs i noCut)) → (i : ℕ) (c : Cut) → soughtIn i (verdictBy own s) ≡ Is c → P c
-sought-good own baseFormat exact s P each i c h = cut-sought i (verdictBy own s) c P h (λ cs e lt. each cs (exact .accepted-only s cs e) i lt)
+sought-good : (own : FormatChecks) (format : Format) (exact : Exact own format) (s : List ℕ) (P : Cut → Type 0)
+    → ((cs : List Cut) → AcceptedBy format s cs → (i : ℕ) → i < length cs → P (getD cs i noCut)) → (i : ℕ) (c : Cut) → soughtIn i (verdictBy own s) ≡ Is c → P c
+sought-good own format exact s P each i c h = cut-sought i (verdictBy own s) c P h (λ cs e lt. each cs (exact .accepted-only s cs e) i lt)
 
 pub good-cut : (s : List ℕ) (i : ℕ) (c : Cut) → soughtIn i (verdict s) ≡ Is c → GoodCut s c
 good-cut s = sought-good baseChecks baseFormat exact s (GoodCut s) (good-accepted s)

@@ -1,4 +1,4 @@
--- Why a call on cut i of a file refuses, by document 01's order: the file's own refusal; then 10 for the cut; then by what the call asks of the cut. Of any format.
+-- Why a call on cut i of a file refuses, by FORMAT.md, "Order of checks": the file's own refusal; then 10 for the cut; then by what the call asks of the cut. Of any format.
 use Prim.Native.Nat.{ℕ, _≤_, _<_}
 use mathlib.Core.List.{List}
 use lib.ListN.{length, getD}
@@ -24,7 +24,7 @@ Asking Wrong c = CutReason c (Wrong c) ⊥ ⊥
 abbrev pub Filling : (Cut → Type 0) → (Cut → Type 0) → Cut → Refusal → Type 0
 Filling Wrong Short c = CutReason c (Wrong c) (Short c) ⊥
 
-pub data Reason (own : FormatChecks) (baseFormat : Format) (s : List ℕ) (i : ℕ) (OnCut : Cut → Refusal → Type 0) : Refusal → Type 0 where
-  by-file : {r : Refusal} → RefusedBy own s r → Reason own baseFormat s i OnCut r
-  no-cut : {cs : List Cut} → AcceptedBy baseFormat s cs → length cs ≤ i → Reason own baseFormat s i OnCut (refuse Argument 0)
-  on-cut : {cs : List Cut} {r : Refusal} → AcceptedBy baseFormat s cs → i < length cs → OnCut (getD cs i noCut) r → Reason own baseFormat s i OnCut r
+pub data Reason (own : FormatChecks) (format : Format) (s : List ℕ) (i : ℕ) (OnCut : Cut → Refusal → Type 0) : Refusal → Type 0 where
+  by-file : {r : Refusal} → RefusedBy own s r → Reason own format s i OnCut r
+  no-cut : {cs : List Cut} → AcceptedBy format s cs → length cs ≤ i → Reason own format s i OnCut (refuse Argument 0)
+  on-cut : {cs : List Cut} {r : Refusal} → AcceptedBy format s cs → i < length cs → OnCut (getD cs i noCut) r → Reason own format s i OnCut r

@@ -1,4 +1,4 @@
--- The bins of one cut: "Bin b of ray r is level r x Nb + b" (document 01, "Run-length rule"), and its stretches (document 01, "Calls").
+-- The bins of one cut: "Bin b of ray r is level r x Nb + b" (FORMAT.md, "Run-length rule"), and its stretches (FORMAT.md, "Calls").
 use Prim.Native.Nat.{ℕ, _+_, _*_}
 use mathlib.Core.List.{List}
 use lib.ListN.{take, drop}

@@ -1,4 +1,4 @@
--- Wish 4, of one cut: its rays' records, which records fit its data, and what decoding from one gives.
+-- FORMAT.md, "Rays by a record", of one cut: its rays' records, which records fit its data, and what decoding from one gives.
 use Prim.Native.Nat.{ℕ}
 use mathlib.Core.List.{List}
 use mathlib.Core.Bool.{Bool}

@@ -1,4 +1,4 @@
--- DEMAND 1. Any octets may be lent. Every call gives its answer or one numbered refusal with its place, by document 01's order of checks, and on a
+-- DEMAND 1. Any octets may be lent. Every call gives its answer or one numbered refusal with its place, by FORMAT.md, "Order of checks", and on a
 -- refusal no octet or word of a lent buffer has changed. Both ways: a call refuses so exactly where its reason holds (`polar` specs/Reasons.antt), and answers exactly where none does. (That every call ends and
 -- asks nothing: each function is proved, and none has a `requires`.) The idea: the answer is a function of the verdict, so it is taken apart by the verdict and then by each test.
 use Prim.Native.Nat.{ℕ, _≤_, _<_, min}

@@ -1,4 +1,4 @@
--- DEMAND 2. A file is accepted exactly when it meets document 01's layouts and limits and each cut's data decodes to exactly its bins. The ray and bin
+-- DEMAND 2. A file is accepted exactly when it meets the layouts and limits of FORMAT.md and each cut's data decodes to exactly its bins. The ray and bin
 -- calls answer for exactly those bins, at the ray and bin asked. Each level above 0 gets its published value; level 0 never gets a number. Levels written
 -- as run-length octets read back. The idea: on an accepted file each answer is that of the cut asked for, and the cut's bins are what its data decodes to.
 use Prim.Native.Nat.{ℕ, _*_, _^_, _≤_, _<_, min}

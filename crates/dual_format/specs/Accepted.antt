@@ -1,4 +1,4 @@
--- Wish 6, with source document 004: what a dual-polarisation file is, with no word on the order of checks. Of a section its octets
+-- FORMAT.md, "Dual-polarisation files": what a dual-polarisation file is, with no word on the order of checks. Of a section its octets
 -- count, and not the place where they stand.
 use Prim.Native.Nat.{ℕ, _≤_}
 use mathlib.Core.Path.{_≡_}

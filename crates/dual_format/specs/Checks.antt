@@ -1,4 +1,4 @@
--- Wish 6: the checks of sections 3, 4, 5 and 7 of a dual-polarisation file, in the wish's order: 4, 5, 14 (just after 5), 6.
+-- FORMAT.md, "Dual-polarisation files": the checks of sections 3, 4, 5 and 7 of a dual-polarisation file, in the order 4, 5, 14 (just after 5), 6.
 use Prim.Native.Nat.{ℕ}
 use mathlib.Core.List.{List, [], _∷_}
 use mathlib.Core.Bool.{cond, _&&_}

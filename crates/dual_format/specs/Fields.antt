@@ -1,4 +1,4 @@
--- Wish 6, with source document 004: the fields that other sections and the calls go by, each by the place of its section.
+-- FORMAT.md, "Dual-polarisation files": the fields that other sections and the calls go by, each by the place of its section.
 use Prim.Native.Nat.{ℕ, _+_, _*_, _/_}
 use mathlib.Core.List.{List}
 use Rattle.rules.specs.Rules.{field}

@@ -1,4 +1,4 @@
--- Wish 6, with source document 004: the cells of a cut, and what each tells.
+-- FORMAT.md, "Dual-polarisation files": the cells of a cut, and what each tells.
 use Prim.Native.Nat.{ℕ, _+_, _*_, _/_}
 use mathlib.Core.List.{List}
 use Rattle.rules.specs.Rules.{field}

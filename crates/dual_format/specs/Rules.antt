@@ -1,9 +1,9 @@
--- Wish 6, with source document 004: the rules on the named fields of sections 3, 4 and 5, in the document's order and with its numbers.
+-- FORMAT.md, "Dual-polarisation files": the rules on the named fields of sections 3, 4 and 5, in its order and with its numbers.
 use Prim.Native.Nat.{ℕ}
 use mathlib.Core.List.{List, [], _∷_, _++_}
 use Rattle.rules.specs.Rules.{Rule, within, either, is, gridRules, modeRule}
 
--- 3: octets 6 to 34 as in document 01, with template 50121; the flags Fa and Fe, 53 and 54, are 0 or 1 (35-38, Dstart, has no rule)
+-- 3: octets 6 to 34 as in the base format, with template 50121; the flags Fa and Fe, 53 and 54, are 0 or 1 (35-38, Dstart, has no rule)
 abbrev pub flagRules : List Rule
 flagRules = within 53 1 0 1 ∷ within 54 1 0 1 ∷ []
 

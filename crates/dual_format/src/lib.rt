@@ -1,5 +1,5 @@
-// Dual-polarisation files: wish 6, with source document 004, of sections 3, 4, 5 and 7, which are this format's own. Below it stand `sections` (what
-// every file has), `rules` (document 01's rules on fields, of which it shares some) and `scaled` (R, and what a cell tells); above it `walks`, which
+// Dual-polarisation files: FORMAT.md, "Dual-polarisation files", of sections 3, 4, 5 and 7, which are this format's own. Below it stand `sections` (what
+// every file has), `rules` (the base format's rules on fields, of which it shares some) and `scaled` (R, and what a cell tells); above it `walks`, which
 // walks over a file, and `dualpol`, the calls.
 //
 // What is to be believed stands in specs/Accepted.antt, by the octets of each section, and in specs/Checks.antt, by places and in the order of checks,

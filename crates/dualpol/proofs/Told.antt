@@ -1,5 +1,5 @@
--- THE THEOREMS of the calls of a dual-polarisation file, over their promises: a file is accepted exactly when none of wish 6's refusals applies, a refusal
--- is by the wish's order, a missing cell is never a number, and a number is within |Y| / 2^51 of the exact one. Each promise allows one answer.
+-- THE THEOREMS of the calls of a dual-polarisation file, over their promises: a file is accepted exactly when none of the format's refusals applies, a refusal
+-- is by the format's order, a missing cell is never a number, and a number is within |Y| / 2^51 of the exact one. Each promise allows one answer.
 -- The idea: the answer is a function of the verdict, which is exact, and of the cell.
 use Prim.Native.Nat.{ℕ, _-_, _^_, _≤_, _<_}
 use mathlib.Core.Path.{_≡_, refl, sym, _∙_, ap, subst}

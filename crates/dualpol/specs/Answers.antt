@@ -1,4 +1,4 @@
--- Wish 6: what open, cut and bin value of a dual-polarisation file answer, for any octets and arguments.
+-- FORMAT.md, "Dual-polarisation files": what open, cut and bin value of a dual-polarisation file answer, for any octets and arguments.
 use Prim.Native.Nat.{ℕ}
 use mathlib.Core.Path.{_≡_}
 use mathlib.Core.List.{List}
@@ -24,7 +24,7 @@ use Rattle.dualpol.specs.declared.DualOpened.the-variants as O
 use Rattle.dualpol.specs.declared.DualCut.{DualCut}
 use Rattle.dualpol.specs.declared.DualCut.the-variants as C
 
--- ── open: as in document 01, with the parameter's number for the product; parameter and site are those of the first cut's section 4 ──
+-- ── open: as in the base format, with the parameter's number for the product; parameter and site are those of the first cut's section 4 ──
 
 abbrev pub summaryOf : List ℕ → ℕ → Cut → DualSummary
 summaryOf s n c = record { parameter = parameterAt s (c .section4); time = timeOf s; site = siteAt s (c .section4); cuts = n }

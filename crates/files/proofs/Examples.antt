@@ -1,4 +1,4 @@
--- Wish 8's words on small cuts: bit i is for cut i; a section 3 is written for the first cut and wherever it differs from the last one written.
+-- FORMAT.md, "To come", smaller file, on small cuts: bit i is for cut i; a section 3 is written for the first cut and wherever it differs from the last one written.
 use Prim.Native.Nat.{ℕ}
 use mathlib.Core.Path.{_≡_, refl}
 use mathlib.Core.List.{[], _∷_}

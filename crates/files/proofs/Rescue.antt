@@ -1,4 +1,4 @@
--- Wish 13 over octets: octets have one reading, so that "the greatest number of leading cuts" is one number and its cuts are one list; an accepted file
+-- FORMAT.md, "To come", rescue, over octets: octets have one reading, so that "the greatest number of leading cuts" is one number and its cuts are one list; an accepted file
 -- has no more leading cuts than it has cuts, and comes out unchanged. (That what comes out is a file with the kept cuts is `assembled-file`.)
 use Prim.Native.Nat.{ℕ, _+_, _≤_, _<_}
 use mathlib.Core.Path.{_≡_, refl, sym, _∙_, ap, subst}

@@ -1,4 +1,4 @@
--- Wishes 8 and 13 over octets: a file assembled from cuts that stood in another is a file with just these cuts.
+-- FORMAT.md, "To come", smaller file and rescue, over octets: a file assembled from cuts that stood in another is a file with just these cuts.
 use Prim.Native.Nat.{ℕ, _+_, _/_, _%_, _^_, _≤_, _<_}
 use mathlib.Core.Path.{_≡_, refl, sym, _∙_, subst}
 use mathlib.Core.List.{List, [], _∷_, _++_}
@@ -144,7 +144,7 @@ sevens-are : Meets sevens 0 rules8
 unfolding rules8 meetsAll meets field be
 sevens-are = refl
 
--- sections 0 and 1 and cuts that stand one after the other: assembled, they are a file with these cuts (wishes 8 and 13)
+-- sections 0 and 1 and cuts that stand one after the other: assembled, they are a file with these cuts (FORMAT.md, "To come": smaller file, rescue)
 pub assembled-file : (f : Format) (s : List ℕ) (ps : List Parts) (left : List ℕ) (a : Leading f s ps left) → 1 ≤ length ps → length ps ≤ 64
     → length (a .cuts) ≤ 8388567 → File f (assembled (a .zero) (a .one) (a .cuts)) ps
 assembled-file f s ps left a some few le =
@@ -190,7 +190,7 @@ module _ (f : Format) (s : List ℕ) (ps qs : List Parts) (file : File f s ps) (
       let none-due : cost f first [] [] ≡ 0 = rw (same-refl []) in
       omega arith
 
-  -- WISH 8: the chosen cuts of a file, written after its sections 0 and 1, are a file with just these cuts
+  -- Smaller file: the chosen cuts of a file, written after its sections 0 and 1, are a file with just these cuts
   pub smaller-file : Regular f → 1 ≤ length qs → File f (assembled (file .leading .zero) (file .leading .one) (cutsAfter [] qs)) qs
   smaller-file reg some =
       let a = file .leading in

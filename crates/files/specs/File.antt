@@ -1,4 +1,4 @@
--- A file as its sections one after the other, by their octets alone: document 01, "Sections". (Proved to be what `AcceptedBy` has, in proofs/ToFile.antt
+-- A file as its sections one after the other, by their octets alone: FORMAT.md, "Sections". (Proved to be what `AcceptedBy` has, in proofs/ToFile.antt
 -- and proofs/FromFile.antt.)
 use Prim.Native.Nat.{ℕ, _+_, _≤_}
 use mathlib.Core.Path.{_≡_}

@@ -1,4 +1,4 @@
--- Wish 8, "Send a smaller file", and wish 13, "Rescue a broken download", over octets: files made of cuts that stood in another.
+-- FORMAT.md, "To come", smaller file and rescue, over octets: files made of cuts that stood in another.
 use Prim.Native.Nat.{ℕ, _+_, _/_, _%_}
 use mathlib.Core.List.{List, [], _∷_, _++_}
 use mathlib.Core.Bool.{cond}

@@ -1,4 +1,4 @@
--- A whole number taken over exactly into a 64-bit float and divided once (document 01, "Calls", Bin value).
+-- A whole number taken over exactly into a 64-bit float and divided once (FORMAT.md, "Calls", Bin value).
 use Prim.Native.Nat.{ℕ}
 use lib.IntN.{ℤ, pos}
 use lib.Ieee.{Float, binary64, div, ofInt}

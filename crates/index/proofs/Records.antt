@@ -205,7 +205,7 @@ front-put {A} P d x h =
     ∙ sym (append-assoc P (x ∷ []) (drop (suc (length P)) d))
     ∙ ap (λ (n : ℕ). (P ++ (x ∷ [])) ++ drop n d) more
 
--- ---- Wish 4: "With the record that building made for that file, cut and ray, it provably equals the plain call"
+-- ---- FORMAT.md, "Rays by a record": "With the record that building made for that file, cut and ray, it provably equals the plain call"
 module _ (v nb nr : ℕ) (s : List ℕ) (some : 0 < nb) (accepted : gives v (nr * nb) s ≡ true) (r : ℕ) (ray : r < nr) (e : RayRecord) where
   abbrev record-of : RayRecord
   record-of = getD (records nr nb v s 0) r e

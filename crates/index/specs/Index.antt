@@ -1,4 +1,4 @@
--- Wish 4: "the offset in the data of the level octet whose run holds the ray's first bin, and how many bins of that run came before".
+-- FORMAT.md, "Rays by a record": "the offset in the data of the level octet whose run holds the ray's first bin, and how many bins of that run came before".
 use Prim.Native.Nat.{ℕ, zero, suc, _+_, _-_}
 use mathlib.Core.List.{List, [], _∷_}
 use mathlib.Core.Bool.{Bool, true, false, cond}

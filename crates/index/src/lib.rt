@@ -1,4 +1,4 @@
-// An index of a cut's rays (wish 4): where in the data each ray begins, and what decoding from such a place gives. specs/Index.antt says both. The data is bare octets
+// An index of a cut's rays (FORMAT.md, "Rays by a record"): where in the data each ray begins, and what decoding from such a place gives. specs/Index.antt says both. The data is bare octets
 // here, and for decoding from a record nothing is asked of it. Below it stands `runs`; above it `cuts`, which knows the data of a cut, and `records`, whose calls make the
 // file's checks.
 use runs::Step;

@@ -1,4 +1,4 @@
--- Wish 4, "Refusals", both ways: a call refuses by exactly the reasons of `records` specs/Reasons.antt, and answers exactly where none of them holds; then no lent memory has changed; by a record it never refuses by 8.
+-- FORMAT.md, "Rays by a record", the refusals, both ways: a call refuses by exactly the reasons of `records` specs/Reasons.antt, and answers exactly where none of them holds; then no lent memory has changed; by a record it never refuses by 8.
 -- The idea: the answer is a function of the verdict and of three tests.
 use Prim.Native.Nat.{ℕ, _≤_, _<_, min}
 use mathlib.Core.Path.{_≡_, refl, sym, _∙_, subst}

@@ -1,4 +1,4 @@
--- Wish 4: "With the record that building made for that file, cut and ray, it provably equals the plain call". Of an accepted file both calls go by the same cut; the
+-- FORMAT.md, "Rays by a record": "With the record that building made for that file, cut and ray, it provably equals the plain call". Of an accepted file both calls go by the same cut; the
 -- record that building made fits its data, and decoding from there gives the ray's bins. A ray past the last one both refuse, whatever the record.
 use Prim.Native.Nat.{ℕ, _*_, _≤_, _<_, min}
 use mathlib.Core.Path.{_≡_, refl, sym, ap, _∙_}

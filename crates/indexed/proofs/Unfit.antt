@@ -1,4 +1,4 @@
--- A record is not usable exactly where one of the wish's four reasons holds: the tests are taken apart in their order.
+-- A record is not usable exactly where one of the four reasons holds: the tests are taken apart in their order.
 use Prim.Native.Nat.{ℕ, _+_, _≤_, _<_}
 use mathlib.Core.Path.{_≡_, sym, _∙_}
 use mathlib.Core.Bool.{true, false}

@@ -1,4 +1,4 @@
--- The kinds of a stretch, in one table: document 01, "Calls", Stretches ("Kind 0 missing, 1 value below T, 2 value at or above T") and "The lister".
+-- The kinds of a stretch, in one table: FORMAT.md, "Calls", Stretches ("Kind 0 missing, 1 value below T, 2 value at or above T") and "The lister".
 use Prim.Native.Nat.{ℕ}
 use Prim.Native.String.{String}
 use mathlib.Core.Bool.{cond}

@@ -1,4 +1,4 @@
--- What lent memory holds after a call has written to it. Past what is written it is as it was (document 01, "Calls").
+-- What lent memory holds after a call has written to it. Past what is written it is as it was (FORMAT.md, "Calls").
 use Prim.Native.Nat.{ℕ, _+_, _-_}
 use mathlib.Core.List.{List, [], _∷_, _++_}
 use lib.ListN.{length, take, drop}

@@ -1,4 +1,4 @@
--- The worked output of document 01, "The lister", is what the definitions give for its numbers.
+-- The worked output of FORMAT.md, "The lister", is what the definitions give for its numbers.
 use mathlib.Core.Path.{_≡_, refl}
 use mathlib.Core.List.{[], _∷_, _++_}
 use Rattle.lent.specs.Ascii.{ascii}

@@ -1,4 +1,4 @@
--- Document 01, "The lister": the text of the list, line by line. A text is a list of octets.
+-- FORMAT.md, "The lister": the text of the list, line by line. A text is a list of octets.
 use Prim.Native.Nat.{ℕ, zero, suc, _+_, _/_, _%_}
 use mathlib.Core.Bool.{cond}
 use mathlib.Core.List.{List, [], _∷_, _++_}

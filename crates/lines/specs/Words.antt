@@ -1,4 +1,4 @@
--- The entries that lent words hold, "four to an entry: ray, first bin, length, kind" (document 01, "Calls").
+-- The entries that lent words hold, "four to an entry: ray, first bin, length, kind" (FORMAT.md, "Calls").
 use Prim.Native.Nat.{ℕ, zero, suc, _+_, _*_}
 use mathlib.Core.List.{List, [], _∷_}
 use lib.ListN.{getD}

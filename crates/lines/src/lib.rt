@@ -1,4 +1,4 @@
-// The text of the stretch list, line by line: document 01, "The lister". specs/Text.antt has each line as octets; each function here puts one at a
+// The text of the stretch list, line by line: FORMAT.md, "The lister". specs/Text.antt has each line as octets; each function here puts one at a
 // place of lent octets and answers the place past it. Below it stand `runs` (what stands at a place) and `stretches` (entries as words); above it
 // `listing`, the whole text of a file.
 use kinds::Numbered;

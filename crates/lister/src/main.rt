@@ -1,4 +1,4 @@
-// The lister: document 01, "The lister". One octet more than a file may have is read, so that a longer one is seen. The room for words and text is
+// The lister: FORMAT.md, "The lister". One octet more than a file may have is read, so that a longer one is seen. The room for words and text is
 // small, since all of it is cleared first: a longer list is fetched in portions and written in pages.
 fn main() {
     let mut file = [0u8; 65537];

@@ -1,4 +1,4 @@
--- Document 01, "The lister": the whole text of a file. "Standard input, at most 65,536 octets (more prints `refused 1 at 0`); every cut, house
+-- FORMAT.md, "The lister": the whole text of a file. "Standard input, at most 65,536 octets (more prints `refused 1 at 0`); every cut, house
 -- threshold. A refusal prints `refused N at P`."
 use Prim.Native.Nat.{ℕ, suc, _+_}
 use mathlib.Core.Bool.{cond}

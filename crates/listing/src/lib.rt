@@ -1,4 +1,4 @@
-// The whole text of a file's list, written page by page: document 01, "The lister". specs/Listing.antt has the text as one definition, `textOf`; `start`
+// The whole text of a file's list, written page by page: FORMAT.md, "The lister". specs/Listing.antt has the text as one definition, `textOf`; `start`
 // gives the standing before the first octet, and `page` writes the next octets of the text and hands the next standing on (proofs/Pages.antt: the
 // pages joined are the text). The file's checks are made once. The words of a listing are kept between pages, so that a cut is listed in few
 // portions, however small the page. Below it stand `walks`, `cuts`, `stretches` and `lines`; above it the programs.

@@ -1,4 +1,4 @@
--- Wishes 8 and 13 for run-length packed files: what comes out is accepted, and the calls answer of each cut as they did.
+-- FORMAT.md, "To come", smaller file and rescue, for run-length packed files: what comes out is accepted, and the calls answer of each cut as they did.
 use Prim.Native.Nat.{ℕ, zero, suc, _+_, _/_, _%_, _≤_, _<_}
 use mathlib.Core.Path.{_≡_, refl, sym, _∙_, ap, subst}
 use mathlib.Core.List.{List, [], _∷_, map}
@@ -35,7 +35,7 @@ default-free [] i d d' lt = absurd (not-suc-le-zero lt)
 default-free (p ∷ l) zero d d' lt = refl
 default-free (p ∷ l) (suc i) d d' lt = default-free l i d d' (le-of-suc-le-suc lt)
 
--- ── wish 8 ──
+-- ── smaller file ──
 
 chosen-map : {A B : Type 0} (f : A → B) (w : ℕ) (l : List A) → chosen w (map f l) ≡ map f (chosen w l)
 chosen-map f w [] = refl
@@ -128,7 +128,7 @@ smaller s cs w a some =
           same-calls t s ds cs (k .accepted) a i (getD numbers i 0) lt (omega arith) (here i lt);
     }
 
--- ── wish 13 ──
+-- ── rescue ──
 
 -- what comes out is accepted, and its stretch lists are those of the kept cuts
 pub record Rescued (ps : List Parts) (t : List ℕ) : Type 0 where

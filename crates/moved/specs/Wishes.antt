@@ -1,4 +1,4 @@
--- Wish 8 for a file: the file of the chosen cuts.
+-- FORMAT.md, "To come", smaller file: the file of the chosen cuts.
 use Prim.Native.Nat.{ℕ, zero, suc, _+_}
 use mathlib.Core.List.{List, [], _∷_, map}
 use lib.ListN.{take}

@@ -1,4 +1,4 @@
--- Document 01, "Run-length rule": the octets that are written for levels.
+-- FORMAT.md, "Run-length rule": the octets that are written for levels.
 use Prim.Native.Nat.{ℕ, zero, suc, _+_, _/_, _%_, max}
 use mathlib.Core.List.{List, [], _∷_, _++_, map}
 use mathlib.Core.Bool.{cond}

@@ -1,4 +1,4 @@
-// Template 7.200, writing: levels to octets, by document 01's "Run-length rule". What it writes reads back as the same levels (proofs/ReadBack.antt).
+// Template 7.200, writing: levels to octets, by FORMAT.md, "Run-length rule". What it writes reads back as the same levels (proofs/ReadBack.antt).
 // Below stands the crate `runs`, which has the one definition of decoding; above stands `bare`, with the call.
 ghost use mathlib.Core.Path.{_≡_};
 ghost use Prim.Native.Nat.{_≤_, _+_};

@@ -1,4 +1,4 @@
--- Document 01, "Calls": what open and cut answer.
+-- FORMAT.md, "Calls": what open and cut answer.
 use Prim.Native.Nat.{ℕ}
 use mathlib.Core.List.{List}
 use mathlib.Core.Bool.{cond}

@@ -1,4 +1,4 @@
--- Document 01, "Calls": what ray levels, ray values and bin value answer and leave in lent memory. They speak of demand 2's bins: "bin b of ray r
+-- FORMAT.md, "Calls": what ray levels, ray values and bin value answer and leave in lent memory. They speak of demand 2's bins: "bin b of ray r
 -- is level r x Nb + b" of what the cut's data decodes to.
 use Prim.Native.Nat.{ℕ}
 use mathlib.Core.List.{List}

@@ -1,4 +1,4 @@
--- Why each call refuses, by document 01's order: the file's own refusal; then 10 for the cut, or another argument; then 11 for room.
+-- Why each call refuses, by FORMAT.md, "Order of checks": the file's own refusal; then 10 for the cut, or another argument; then 11 for room.
 use Prim.Native.Nat.{ℕ, _≤_, _<_}
 use mathlib.Core.Path.{_≡_}
 use mathlib.Core.Bool.{false}

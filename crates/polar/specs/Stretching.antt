@@ -1,4 +1,4 @@
--- Document 01, "Calls", Stretches: what the call answers and leaves in the lent words.
+-- FORMAT.md, "Calls", Stretches: what the call answers and leaves in the lent words.
 use Prim.Native.Nat.{ℕ}
 use mathlib.Core.List.{List}
 use mathlib.Core.Bool.{cond, _&&_}

@@ -1,4 +1,4 @@
--- What the calls of a dual-polarisation file promise C: as those of document 01's files do.
+-- What the calls of a dual-polarisation file promise C: as those of the base format's files do.
 use Prim.Native.Nat.{ℕ}
 use mathlib.Core.List.{List}
 use lib.IntN.{ℤ}

@@ -1,4 +1,4 @@
--- What wish 4's calls promise C: what they return, and each lent memory after the call. A record is handed in by its two fields.
+-- What the calls by a record promise C: what they return, and each lent memory after the call. A record is handed in by its two fields.
 use Prim.Native.Nat.{ℕ, min}
 use mathlib.Core.Path.{_≡_}
 use mathlib.Core.List.{List}

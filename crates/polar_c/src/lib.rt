@@ -1,5 +1,5 @@
 // The library's public calls by C's rules, for C and Rust: numbers and slices alone. A slice passes as a pointer and a length, an array as a pointer.
-// Each call returns 0, or a refusal in one word: document 01's number + 256 x its place. The words of an answer go to a lent array; on a refusal nothing lent
+// Each call returns 0, or a refusal in one word: FORMAT.md's number + 256 x its place. The words of an answer go to a lent array; on a refusal nothing lent
 // has changed. Nothing is decided here: the crates below decide, and `c_words` says how each of their answers goes out.
 ghost use mathlib.Core.Path.{_≡_};
 ghost use Rattle.polar.specs.Stretching.{house};

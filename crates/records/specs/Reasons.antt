@@ -1,4 +1,4 @@
--- Why index building and a ray call by a record refuse, in wish 4's order.
+-- Why index building and a ray call by a record refuse: FORMAT.md, "Rays by a record".
 use Prim.Native.Nat.{ℕ, _+_, _≤_, _<_}
 use mathlib.Core.List.{List}
 use lib.ListN.{length, drop, getD}

@@ -1,4 +1,4 @@
--- Wish 4: what index building and the ray calls by a record answer and leave in lent memory.
+-- FORMAT.md, "Rays by a record": what index building and the ray calls by a record answer and leave in lent memory.
 use Prim.Native.Nat.{ℕ}
 use mathlib.Core.Path.{_≡_}
 use mathlib.Core.List.{List}

@@ -1,4 +1,4 @@
--- Document 01, "Sections": the fields that other sections and the calls go by, each by the place of its section.
+-- FORMAT.md, "Sections": the fields that other sections and the calls go by, each by the place of its section.
 use Prim.Native.Nat.{ℕ, _*_}
 use mathlib.Core.List.{List}
 use Rattle.rules.specs.Rules.{field}

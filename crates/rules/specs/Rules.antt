@@ -1,4 +1,4 @@
--- Document 01, "Sections": the rules on the named fields of each section, in the document's order and with its numbers.
+-- FORMAT.md, "Sections": the rules on the named fields of each section, in its order and with its numbers.
 use Prim.Native.Nat.{ℕ, _+_, _-_, _%_}
 use mathlib.Core.List.{List, [], _∷_}
 use mathlib.Core.Bool.{Bool, true, _&&_, _||_}

@@ -1,4 +1,4 @@
-// The rules on a section's named fields: document 01, "Sections", each section's rules as one chain of tests without branches. Below it stands
+// The rules on a section's named fields: FORMAT.md, "Sections", each section's rules as one chain of tests without branches. Below it stands
 // `octets`; above it `sections`, which puts the sections in order, and the two formats, `base_format` and `dual_format`.
 ghost use mathlib.Core.Path.{_≡_};
 ghost use Prim.Native.Nat.{ℕ};

@@ -1,4 +1,4 @@
--- Document 01, "Run-length rule": what octets mean under V (template 7.200). This is the one definition of decoding.
+-- FORMAT.md, "Run-length rule": what octets mean under V (template 7.200). This is the one definition of decoding.
 use Prim.Native.Nat.{ℕ, _+_, _-_, _*_, _^_}
 use mathlib.Core.List.{List, [], _∷_, _++_}
 use mathlib.Core.Bool.{Bool, true, false, cond}

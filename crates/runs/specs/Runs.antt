@@ -1,4 +1,4 @@
--- Document 01, "Run-length rule", said as a relation built from runs. proofs/Meaning.antt: it holds exactly of what `levels` gives.
+-- FORMAT.md, "Run-length rule", said as a relation built from runs. proofs/Meaning.antt: it holds exactly of what `levels` gives.
 use Prim.Native.Nat.{ℕ, _+_, _-_, _*_, _^_, _≤_, _<_}
 use mathlib.Core.Path.{_≡_}
 use mathlib.Core.List.{List, [], _∷_, _++_}

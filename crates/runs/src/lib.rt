@@ -1,4 +1,4 @@
-// Template 7.200, reading: octets to levels under a greatest level V, by document 01's "Run-length rule".
+// Template 7.200, reading: octets to levels under a greatest level V, by FORMAT.md, "Run-length rule".
 // specs/Run.antt holds the one definition of decoding, `levels`. The functions ask of their callers what is known to them; the calls that ask nothing are in
 // `bare`. Below stands `lent`; the crates `packing` (writing), `base_format` (a file's data) and `stretches` (the list, run by run) stand above and go by
 // `levels`, `gives` and their laws.

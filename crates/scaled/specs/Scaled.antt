@@ -1,4 +1,4 @@
--- Simple packing: what a cell of section 7 tells (document 004, the notes on the IEEE single and on "Y×10^D=R+Z×2^E"), over whole numbers.
+-- Simple packing: what a cell of section 7 tells (FORMAT.md, "Dual-polarisation files", Cells), over whole numbers.
 use mathlib.Core.Path.{_≡_}
 use mathlib.Core.Logic.{_⊎_}
 use mathlib.Core.Bool.{Bool, true, false, not, cond}

@@ -1,4 +1,4 @@
--- Document 01, "Sections", as it stands there: which files are accepted, with no word on the order of checks, by what a format says of its own
+-- FORMAT.md, "Sections", as it stands there: which files are accepted, with no word on the order of checks, by what a format says of its own
 -- sections 3, 4, 5 and 7.
 use Prim.Native.Nat.{ℕ, _+_, _≤_}
 use mathlib.Core.Path.{_≡_}

@@ -1,4 +1,4 @@
--- Document 01, "Refusal numbers" and "Order in a file": the checks at a place, in the document's order: 3, 9, then those of the section's own kind, of
+-- FORMAT.md, "Refusals" and "Order of checks": the checks at a place, in that order: 3, 9, then those of the section's own kind, of
 -- which sections 3, 4, 5 and 7 are the format's.
 use Prim.Native.Nat.{ℕ, _+_}
 use mathlib.Core.List.{List, [], _∷_}

@@ -1,4 +1,4 @@
--- What has been seen of a file before a place: the sections passed, the last of them first; and what document 01 asks of them.
+-- What has been seen of a file before a place: the sections passed, the last of them first; and what FORMAT.md, "Sections", asks of them.
 use Prim.Native.Nat.{ℕ, _+_}
 use mathlib.Core.List.{List, [], _∷_, _++_}
 use mathlib.Core.Bool.{cond}

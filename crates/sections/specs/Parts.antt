@@ -1,4 +1,4 @@
--- Document 01, "Sections" and "Calls": what every file says alike, by the places of its sections.
+-- FORMAT.md, "Sections" and "Calls": what every file says alike, by the places of its sections.
 use Prim.Native.Nat.{ℕ}
 use mathlib.Core.List.{List}
 use Rattle.octets.specs.Octets.{signed}

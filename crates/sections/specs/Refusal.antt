@@ -1,4 +1,4 @@
--- Document 01, "Refusal numbers", with those of wishes 4 (13) and 6 (14): the number of each refusal. A refusal is why and where: "place is the start of the section
+-- FORMAT.md, "Refusals": the number of each refusal. A refusal is why and where: "place is the start of the section
 -- concerned", and 0 where none is.
 use Prim.Native.Nat.{ℕ}
 use Rattle.sections.specs.declared.Refusal.{Refusal}

@@ -1,4 +1,4 @@
--- Document 01, "Refusal numbers" and "Order in a file", as they stand there: which files are refused, by which number and at which place,
+-- FORMAT.md, "Refusals" and "Order of checks", as they stand there: which files are refused, by which number and at which place,
 -- by a format's own checks.
 use Prim.Native.Nat.{ℕ, _+_, _≤_}
 use mathlib.Core.Path.{_≡_}
@@ -37,7 +37,7 @@ pub record RightSize (s : List ℕ) : Type 0 where
   pub small : 20 ≤ length s
   pub large : length s ≤ 8388608
 
--- 1; or 2; or the sections before a place pass, and of the checks there, in the document's order, one is the first that fails
+-- 1; or 2; or the sections before a place pass, and of the checks there, in that order, one is the first that fails
 pub data RefusedBy (own : FormatChecks) (s : List ℕ) : Refusal → Type 0 where
   size : (RightSize s → ⊥) → RefusedBy own s (refuse FileSize 0)
   head : RightSize s → meetsAll s 0 (rules0 (length s)) ≡ false → RefusedBy own s (refuse Section0 0)

@@ -1,4 +1,4 @@
--- The verdict on any octets by a format's own checks, to compute: document 01, "Order in a file": 1, 2, then section by section.
+-- The verdict on any octets by a format's own checks, to compute: FORMAT.md, "Order of checks": 1, 2, then section by section.
 use Prim.Native.Nat.{ℕ, zero, suc, _+_, _-_}
 use mathlib.Core.List.{List, [], _∷_}
 use mathlib.Core.Bool.{Bool, cond, _&&_}

@@ -1,4 +1,4 @@
-// What the two formats share: document 01, "Sections", "Refusal numbers" and "Order in a file". The order of sections, sections 0, 1, 6 and 8, the
+// What the two formats share: FORMAT.md, "Sections", "Refusals" and "Order of checks". The order of sections, sections 0, 1, 6 and 8, the
 // checks at a place as lists, and the verdict on any octets, accepted or refused, by whatever a format says of its own sections 3, 4, 5 and 7. Below it
 // stands `rules` (the fields of each section); above it `base_format` (run-length packed files) and `dual_format` (dual-polarisation files) with their own sections, and `walks`.
 //
@@ -40,9 +40,9 @@ pub enum Why {
     Room,
     // 12: V over 253, by which runs have no base
     V,
-    // 13: a record by which no ray can be read (wish 4)
+    // 13: a record by which no ray can be read
     Record,
-    // 14: a packing or a scan mode that is not read (wish 6)
+    // 14: a packing or a scan mode that is not read
     Unread,
 }
 

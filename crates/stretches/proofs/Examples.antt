@@ -1,4 +1,4 @@
--- Document 01's examples marked P, of the published values and of runs, as one table under one statement.
+-- The examples marked P of FORMAT.md, "Checked examples", of published values and of runs, as one table under one statement.
 use Prim.Native.Nat.{ℕ}
 use mathlib.Core.Path.{_≡_, refl}
 use mathlib.Core.List.{List, [], _∷_}

@@ -1,4 +1,4 @@
--- Document 01, "Calls", Stretches: what a call lists, what it answers, and what it leaves in the lent words.
+-- FORMAT.md, "Calls", Stretches: what a call lists, what it answers, and what it leaves in the lent words.
 use Prim.Native.Nat.{ℕ, _*_, _/_, _≤_, _<_}
 use mathlib.Core.Path.{_≡_}
 use mathlib.Core.Bool.{Bool, true, not, _&&_, _||_}

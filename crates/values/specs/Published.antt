@@ -1,4 +1,4 @@
--- The published values, in hundredths, by level (document 01, "The published values, in hundredths").
+-- The published values, in hundredths, by level (FORMAT.md, "Published values").
 use Prim.Native.Nat.{ℕ, zero, suc, _+_, _-_, _*_, _%_}
 use mathlib.Core.Bool.{cond}
 use mathlib.Core.List.{List, [], _∷_}

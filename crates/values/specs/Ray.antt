@@ -1,4 +1,4 @@
--- A ray's levels as marks and values in two lent buffers (document 01, "Calls", Ray values).
+-- A ray's levels as marks and values in two lent buffers (FORMAT.md, "Calls", Ray values).
 use Prim.Native.Nat.{ℕ}
 use mathlib.Core.List.{List}
 use lib.IntN.{ℤ}

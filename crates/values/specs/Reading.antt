@@ -16,7 +16,7 @@ unfoldable pub readingOf : Product → ℕ → Reading
 unfolding published
 readingOf p l = cond (eqb l 0) Missing (Number (published p l))
 
--- the mark: 0 missing, 1 measured (document 01, "Calls", Ray values)
+-- the mark: 0 missing, 1 measured (FORMAT.md, "Calls", Ray values)
 unfoldable pub markOf : Reading → ℕ
 markOf Missing = 0
 markOf (Number z) = 1
@@ -26,7 +26,7 @@ unfoldable pub heldOf : Reading → ℤ → ℤ
 heldOf Missing x = x
 heldOf (Number z) x = z
 
--- the kind against the threshold T: missing, under it, or at it and over (document 01, "Calls", Stretches)
+-- the kind against the threshold T: missing, under it, or at it and over (FORMAT.md, "Calls", Stretches)
 unfoldable pub kindOf : Reading → ℤ → Kind
 kindOf Missing t = K.Missing
 kindOf (Number z) t = cond (ltZ z t) K.Under K.Over

@@ -1,4 +1,4 @@
--- Section 5's value table, octet for octet (document 01, "Sections" and "Numbers in a file").
+-- Section 5's value table, octet for octet (FORMAT.md, "Sections" and "Numbers in a file").
 use Prim.Native.Nat.{ℕ, suc, _+_, _/_, _%_}
 use mathlib.Core.Bool.{Bool}
 use mathlib.Core.List.{List, [], _∷_}

@@ -1,4 +1,4 @@
--- `run_check` meets its contract: the tests in document 01's order, then the scan.
+-- `run_check` meets its contract: the tests in the order of FORMAT.md, "Order of checks", then the scan.
 use mathlib.Core.Path.{sym, _∙_}
 use borrow.Author.Needs.{needs}
 use borrow.Author.Tests.{lt-ltb, le-ltb}

@@ -1,4 +1,4 @@
--- `run_read` meets its contract: the tests in document 01's order, then the scan, then the filling with all bins.
+-- `run_read` meets its contract: the tests in the order of FORMAT.md, "Order of checks", then the scan, then the filling with all bins.
 use Prim.Native.Nat.{ℕ, _-_}
 use mathlib.Core.Path.{_≡_, refl, sym, ap, _∙_}
 use mathlib.Core.Bool.{true}

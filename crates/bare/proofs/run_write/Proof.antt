@@ -1,4 +1,4 @@
--- `run_write` meets its contract: the tests in document 01's order, then the writing.
+-- `run_write` meets its contract: the tests in the order of FORMAT.md, "Order of checks", then the writing.
 use Prim.Native.Nat.{ℕ, _≤_, _<_}
 use mathlib.Core.Path.{_≡_, refl, sym, ap, _∙_}
 use mathlib.Core.Bool.{true, false}
