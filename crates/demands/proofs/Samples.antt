@@ -18,10 +18,13 @@ use Rattle.bare.specs.Read.{readAnswer, readOut, ReadPromise}
 use Rattle.bare.specs.declared.ReadRefusal.the-variants as F
 use Rattle.bare.specs.declared.RunRead.{RunRead}
 use Rattle.bare.specs.declared.RunRead.the-variants as K
-use Rattle.packing.specs.Write.{greatest, written}
-use Rattle.bare.specs.Write.{writeAnswer, WritePromise}
+use lib.ListN.{replicate}
+use Rattle.packing.specs.Write.{greatest, digitsUpTo, digitsOf, code, onFrom, written, packed}
+use Rattle.bare.specs.Write.{writeAnswer, writeOut, WritePromise}
+use Rattle.bare.specs.declared.WriteRefusal.the-variants as G
 use Rattle.bare.specs.declared.RunWrite.{RunWrite}
 use Rattle.bare.specs.declared.RunWrite.the-variants.{Wrote}
+use Rattle.bare.specs.declared.RunWrite.the-variants as H
 
 -- an empty file is refused by 1, at place 0
 pub empty-file : (r : Opened) → OpenPromise [] r → r ≡ O.Refused (refuse FileSize 0)
@@ -57,3 +60,18 @@ too-many-wanted r out p = p .answered
 pub no-levels : (r : RunWrite) (out : List ℕ) → WritePromise [] (0 ∷ []) r out → r ≡ Wrote 0 0
 unfolding writeAnswer greatest written
 no-levels r out p = p .answered
+
+-- V = 252, base 3: `7 254 253` is two 7s, the first digit being the least. (With the most significant first it would be four.)
+pub least-digit-first : (r : RunRead) (out : List ℕ) → ReadPromise 252 2 (7 ∷ 254 ∷ 253 ∷ []) (0 ∷ 0 ∷ []) r out → (r ≡ K.Read) × (out ≡ 7 ∷ 7 ∷ [])
+unfolding readAnswer gives levels digitSum
+least-digit-first r out p = (p .answered, p .held ∙ ap (λ (x : RunRead). readOut x (levels 252 (7 ∷ 254 ∷ 253 ∷ [])) (0 ∷ 0 ∷ [])) (p .answered))
+
+-- ten 252s give `252 253 253 254`: one run, under the greatest level, the least digit first, and the last digit not zero
+pub ten-252 : (r : RunWrite) (out : List ℕ) → WritePromise (replicate 10 252) (0 ∷ 0 ∷ 0 ∷ 0 ∷ 9 ∷ []) r out → (r ≡ Wrote 252 4) × (out ≡ 252 ∷ 253 ∷ 253 ∷ 254 ∷ 9 ∷ [])
+unfolding writeAnswer greatest written onFrom code digitsOf digitsUpTo
+ten-252 r out p = (p .answered, p .held ∙ ap (λ (x : RunWrite). writeOut x (packed (replicate 10 252)) (0 ∷ 0 ∷ 0 ∷ 0 ∷ 9 ∷ [])) (p .answered))
+
+-- level 253 is refused by 10
+pub level-253 : (r : RunWrite) (out : List ℕ) → WritePromise (253 ∷ []) (0 ∷ []) r out → r ≡ H.Refused G.Argument
+unfolding writeAnswer greatest
+level-253 r out p = p .answered
