@@ -6,10 +6,8 @@ static uint8_t file[POLAR_MOST_FILE + 1];
 
 static int refused(uint64_t returned)
 {
-    uint32_t number = POLAR_NUMBER(returned);
-    unsigned long place = (unsigned long)POLAR_PLACE(returned);
-
-    printf("refused %u at %lu: %s\n", (unsigned)number, place, polar_refusal_text(number));
+    printf("refused %u at %lu: %s\n", (unsigned)POLAR_NUMBER(returned), (unsigned long)POLAR_PLACE(returned),
+           polar_refusal_text(POLAR_NUMBER(returned)));
     return 1;
 }
 

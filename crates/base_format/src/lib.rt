@@ -2,7 +2,7 @@
 // file has), `rules` (the fields of each section), `runs` (the data) and `values` (the value table); above it `walks`, which walks over a file.
 //
 // What is to be believed stands in specs/Accepted.antt, by the octets of each section, and in specs/Checks.antt, by places and in the order of checks,
-// with the rule lists of crate `rules`; proofs/Exact.antt has the theorems that `verdict` accepts and refuses exactly these files.
+// with the rule lists of specs/Rules.antt; proofs/Exact.antt has the theorems that `verdict` accepts and refuses exactly these files.
 use runs::Scan;
 use sections::Context;
 use sections::Cut;

@@ -1,6 +1,6 @@
 // THE CALLS of a dual-polarisation file: FORMAT.md, "Dual-polarisation files". Each is lent the whole file, makes all the file's checks itself, then answers or refuses by 10; none asks
 // anything of its caller. What each answers is one definition of specs/. Below it stand `walks` (the file's checks), `dual_format` (this format's own
-// sections), `scaled` (what a cell tells) and `calls`; above it `polar_c` (the calls for C and Rust).
+// sections), `scaled` (what a cell tells) and `calls`; above it `c_words` (the calls for C and Rust).
 use calls::BinAnswer;
 use calls::Sought;
 use scaled::Cell;

@@ -1,6 +1,6 @@
 // THE CALLS of a run-length packed file: FORMAT.md, "Calls". Each is lent the whole file, makes all the file's checks itself, then answers or refuses by 10, then 11;
 // none asks anything of its caller. What each answers, and what it leaves in lent memory, is one definition of specs/. Below it stand `walks` (the
-// file's checks) and `cuts` (one cut of an accepted file), and `calls` (what a call on a file comes to); above it `demands` and `polar_c` (the calls for C and Rust).
+// file's checks) and `cuts` (one cut of an accepted file), and `calls` (what a call on a file comes to); above it `demands` and `c_words` (the calls for C and Rust).
 use calls::BinAnswer;
 use calls::RayAnswer;
 use calls::Sought;

@@ -1,7 +1,7 @@
 // THE CALLS by a record (FORMAT.md, "Rays by a record"): an index of a cut's rays, built in a lent row of records, and both ray calls by one record. Each is
 // lent the whole file and asks nothing of its caller. Building makes all the file's checks, then answers or refuses by 10, then 11; a call by a record makes all but 8,
 // then 10, 11, 13. Below it stand `walks`, `cuts`, `index` (records of bare data) and `calls`; above it `indexed` (their theorems)
-// and `polar_c` (the calls for C and Rust).
+// and `c_words` (the calls for C and Rust).
 use calls::RayAnswer;
 use calls::Sought;
 use index::Pace;

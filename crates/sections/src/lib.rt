@@ -3,7 +3,7 @@
 // stands `rules` (the fields of each section); above it `base_format` (run-length packed files) and `dual_format` (dual-polarisation files) with their own sections, and `walks`.
 //
 // What is to be believed stands in specs/; proofs/Exact.antt has the theorems that a verdict accepts and refuses exactly the files of
-// specs/Accepted.antt and specs/Refused.antt, for every format whose checks say what it says. The state below is the walk's own.
+// specs/Accepted.antt and specs/Refused.antt, for every format whose checks say what it says.
 ghost use mathlib.Core.Path.{_≡_};
 ghost use mathlib.Core.Bool.{cond};
 ghost use Prim.Native.Nat.{_+_};

@@ -1,6 +1,6 @@
 // The walk over the sections of a file, which answers the verdict on any octets: accepted, with the number of cuts and the places of one cut's sections;
 // or the refusal. One walk for both formats, which differ in the checks of their own sections alone. Below it stand `sections` (what every file has),
-// `base_format` (run-length packed files) and `dual_format` (dual-polarisation files); above it `polar`, `listing` and `dualpol`, the calls.
+// `base_format` (run-length packed files) and `dual_format` (dual-polarisation files); above it `calls`, by which every call finds its cut, and `listing`.
 use sections::Context;
 use sections::Cut;
 use sections::Judged;

@@ -7,9 +7,8 @@ use Rattle.polar_c.proofs.polar_cut.Tie as tie
 
 put-cut-requires : tie.Need-put-cut-requires
 put-cut-requires c κs =
-    let s : tie.Start = search in
     let k : tie.After-cut-info = search in
-    rw (k .cut-info .ensures .answer) (cut-info-fits (s .args .file .now) (s .args .cut))
+    rw (k .cut-info .ensures .answer) (cut-info-fits _ _)
 
 returns : tie.Need-returns
 returns c =

@@ -7,9 +7,8 @@ use Rattle.polar_c.proofs.polar_dual_bin_value.Tie as tie
 
 put-bin-requires : tie.Need-put-bin-requires
 put-bin-requires c κs =
-    let s : tie.Start = search in
     let k : tie.After-bin-value = search in
-    rw (k .bin-value .ensures .answer) (dual-bin-fits (s .args .file .now) (s .args .cut) (s .args .ray) (s .args .bin))
+    rw (k .bin-value .ensures .answer) (dual-bin-fits _ _ _ _)
 
 returns : tie.Need-returns
 returns c =

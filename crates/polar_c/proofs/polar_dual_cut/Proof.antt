@@ -7,9 +7,8 @@ use Rattle.polar_c.proofs.polar_dual_cut.Tie as tie
 
 put-dual-cut-requires : tie.Need-put-dual-cut-requires
 put-dual-cut-requires c κs =
-    let s : tie.Start = search in
     let k : tie.After-cut-info = search in
-    rw (k .cut-info .ensures) (dual-cut-fits (s .args .file .now) (s .args .cut))
+    rw (k .cut-info .ensures) (dual-cut-fits _ _)
 
 returns : tie.Need-returns
 returns c =

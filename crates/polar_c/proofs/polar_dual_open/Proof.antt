@@ -7,9 +7,8 @@ use Rattle.polar_c.proofs.polar_dual_open.Tie as tie
 
 put-dual-open-requires : tie.Need-put-dual-open-requires
 put-dual-open-requires c κs =
-    let s : tie.Start = search in
     let k : tie.After-open = search in
-    rw (k .open .ensures) (dual-open-fits (s .args .file .now))
+    rw (k .open .ensures) (dual-open-fits _)
 
 returns : tie.Need-returns
 returns c =

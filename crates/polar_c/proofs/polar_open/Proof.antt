@@ -7,9 +7,8 @@ use Rattle.polar_c.proofs.polar_open.Tie as tie
 
 put-open-requires : tie.Need-put-open-requires
 put-open-requires c κs =
-    let s : tie.Start = search in
     let k : tie.After-open = search in
-    rw (k .open .ensures .answer) (open-fits (s .args .file .now))
+    rw (k .open .ensures .answer) (open-fits _)
 
 returns : tie.Need-returns
 returns c =

@@ -7,9 +7,8 @@ use Rattle.polar_c.proofs.polar_ray_values.Tie as tie
 
 ray-return-requires : tie.Need-ray-return-requires
 ray-return-requires c κs =
-    let s : tie.Start = search in
     let k : tie.After-ray-values = search in
-    rw (k .ray-values .ensures .answer) (ray-fits (s .args .file .now) (s .args .cut) (s .args .ray) _)
+    rw (k .ray-values .ensures .answer) (ray-fits _ _ _ _)
 
 returns : tie.Need-returns
 returns c =

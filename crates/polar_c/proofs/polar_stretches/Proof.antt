@@ -12,9 +12,8 @@ use Rattle.polar_c.proofs.polar_stretches.Tie as tie
 
 put-stretches-requires : tie.Need-put-stretches-requires
 put-stretches-requires c κs =
-    let s : tie.Start = search in
     let k : tie.After-stretches = search in
-    rw (k .stretches .ensures .answer) (stretches-fits (s .args .file .now) (s .args .cut) _ (s .args .ray) (s .args .bin) _)
+    rw (k .stretches .ensures .answer) (stretches-fits _ _ _ _ _ _)
 
 returns : tie.Need-returns
 returns c =
