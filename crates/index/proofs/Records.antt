@@ -6,20 +6,17 @@ use mathlib.Core.List.{List, [], _∷_, _++_, append-assoc}
 use native.Mathlib.Omega.{arith}
 use native.Mathlib.Nat.{suc-mul, mul-le-mul}
 use lib.ListN.{length, take, drop, getD, set, replicate, length-append, length-drop, length-replicate}
-use lib.Seq.{drop-drop, drop-at, drop-cons, set-at}
+use lib.Seq.{drop-drop, drop-at, drop-cons, drop-nil, set-at}
 use lib.Dec.{leb, ltb}
-use borrow.Author.Tests.{le-leb, lt-leb, lt-ltb, le-ltb}
+use borrow.Author.Tests.{le-leb, lt-leb, lt-ltb, le-ltb, leb-true}
 use Rattle.runs.specs.Run.{levels, opens, gives, digitSum, runLen}
-use Rattle.runs.specs.Inner.{digitCount, runNext}
+use Rattle.runs.specs.Inner.{Stands}
 use Rattle.lent.specs.Lent.{front, between}
 use Rattle.octets.proofs.Orders.{by-order}
-use Rattle.lent.proofs.Lent.{drop-here}
 use Rattle.runs.proofs.Bins.{levels-nil, levels-open, levels-digit}
-use Rattle.runs.proofs.Steps.{digitCount-nil, digitCount-open, digitCount-digit}
-use Rattle.runs.proofs.Here.{Stands, here-inside, here-low, here-fits, here-next, run-fits, gives-true}
+use Rattle.runs.proofs.Here.{here-inside, run-fits, gives-true}
 use Rattle.index.specs.declared.RayRecord.{RayRecord}
 use Rattle.index.specs.Index.{usable, fromRecord, recordOf, records}
-use Rattle.index.specs.Pace.{InHand}
 use Rattle.index.proofs.Usable.{usable-left}
 
 -- ---- by the first octet
@@ -36,72 +33,46 @@ module _ (v o : ℕ) (s : List ℕ) (at a : ℕ) where
   unfolding recordOf
   record-digit h = simp (lt-leb _ _ h)
 
--- digits in front make no difference
-skip : (v : ℕ) (t : List ℕ) (at a : ℕ) → recordOf v t at a ≡ recordOf v (drop (digitCount v t) t) (at + digitCount v t) a
-skip v [] at a =
-    let none : digitCount v [] ≡ 0 = digitCount-nil v in
-    let place : at ≡ at + digitCount v [] = omega arith in
-    λ i. recordOf v (drop (sym none i) []) (place i) a
-skip v (o ∷ t) at a =
-    by-order o v
-    (λ h.
-    let none : digitCount v (o ∷ t) ≡ 0 = digitCount-open v o t h in
-    let place : at ≡ at + digitCount v (o ∷ t) = omega arith in
-    λ i. recordOf v (drop (sym none i) (o ∷ t)) (place i) a)
-    (λ h.
-    let one : suc (digitCount v t) ≡ digitCount v (o ∷ t) = omega (arith, digitCount-digit v o t h) in
-    let place : at + 1 + digitCount v t ≡ at + digitCount v (o ∷ t) = omega arith in
-    record-digit v o t at a h ∙ skip v t (at + 1) a ∙ (λ i. recordOf v (drop (one i) (o ∷ t)) (place i) a))
+-- octets from a place on give no more bins than all of them
+suffix : (v : ℕ) (t : List ℕ) (k : ℕ) → length (levels v (drop k t)) ≤ length (levels v t)
+suffix v [] k = omega (arith, ap (λ (l : List ℕ). length (levels v l)) (drop-nil k))
+suffix v (x ∷ t) zero = omega arith
+suffix v (x ∷ t) (suc k) =
+    by-order x v
+    (λ low. omega (arith, suffix v t k, simp length-append at (ap length (levels-open v x t low))))
+    (λ high. omega (arith, suffix v t k, ap length (levels-digit v x t high)))
 
--- ---- by the run at a level octet
-module _ (v : ℕ) (s : List ℕ) (at a : ℕ) (inside : at < length s) (low : getD s at 0 ≤ v) where
-  pub run-in : a < runLen v s at → recordOf v (drop at s) at a ≡ record { offset = at; before = a }
-  run-in h = ap (λ (l : List ℕ). recordOf v l at a) (drop-here s at inside) ∙ record-in v (getD s at 0) (drop (at + 1) s) at a low h
+-- ---- the record of a bin is the run that holds it: as many bins come before it as the octets from it on leave
+found : (v : ℕ) (t : List ℕ) (k at a bins : ℕ) → opens v (drop k t) ≡ true → k < length t → length (levels v t) ≡ bins + length (levels v (drop k t)) → bins ≤ a → a < bins + runLen v t k
+    → recordOf v t at a ≡ record { offset = at + k; before = a - bins }
+found v [] k at a bins o i e l h = absurd (omega arith)
+found v (x ∷ t) zero at a bins o i e l h =
+    let low : x ≤ v = leb-true x v o in
+    let none : a ≡ a - bins = omega arith in
+    let here : at ≡ at + 0 = omega arith in
+    record-in v x t at a low (omega arith) ∙ (λ j. record { offset = here j; before = none j })
+found v (x ∷ t) (suc k) at a bins o i e l h =
+    let rest = suffix v t k in
+    let place : at + 1 + k ≡ at + suc k = omega arith in
+    let shift : suc (k + 1) ≡ suc k + 1 = omega arith in
+    let same : runLen v t k ≡ runLen v (x ∷ t) (suc k) = ap (λ (n : ℕ). 1 + digitSum v 0 (drop n (x ∷ t))) shift in
+    by-order x v
+    (λ low.
+    let m : ℕ = 1 + digitSum v 0 t in
+    let size : length (levels v (x ∷ t)) ≡ m + length (levels v t) = ap length (levels-open v x t low) ∙ length-append (replicate m x) (levels v t) ∙ ap (λ (n : ℕ). n + length (levels v t)) (length-replicate m x) in
+    let less : a - m - (bins - m) ≡ a - bins = omega arith in
+    record-past v x t at a low (omega arith)
+    ∙ found v t k (at + 1) (a - m) (bins - m) o (omega arith) (omega arith) (omega arith) (omega arith)
+    ∙ (λ j. record { offset = place j; before = less j }))
+    (λ high.
+    let size : length (levels v (x ∷ t)) ≡ length (levels v t) = ap length (levels-digit v x t high) in
+    record-digit v x t at a high ∙ found v t k (at + 1) a bins o (omega arith) (omega arith) l (omega arith) ∙ (λ j. record { offset = place j; before = a - bins }))
 
-  pub run-past : runLen v s at ≤ a → recordOf v (drop at s) at a ≡ recordOf v (drop (runNext v s at) s) (runNext v s at) (a - runLen v s at)
-  run-past h =
-      ap (λ (l : List ℕ). recordOf v l at a) (drop-here s at inside)
-      ∙ record-past v (getD s at 0) (drop (at + 1) s) at a low h
-      ∙ skip v (drop (at + 1) s) (at + 1) (a - runLen v s at)
-      ∙ ap (λ (l : List ℕ). recordOf v l (runNext v s at) (a - runLen v s at)) (drop-drop (digitCount v (drop (at + 1) s)) (at + 1) s)
-
--- ---- the walk that makes records
-pub hand-first : (v : ℕ) (d : List ℕ) → opens v d ≡ true → InHand v d 0 0 0 0
-hand-first v d o = record {
-  within = omega arith;
-  rest = refl;
-  opened = o;
-  inside = omega arith;
-  held = λ a l h. absurd (omega arith);
-  past = λ a h. let all : a ≡ a - 0 = omega arith in ap (λ (n : ℕ). recordOf v d 0 n) all;
-}
-
-module _ (v : ℕ) (d : List ℕ) (at bins end next : ℕ) (k : InHand v d at bins end next) (more : end < length (levels v d)) where
-  stands : Stands v d next end
-  stands = record { within = k .within; rest = k .rest; opened = k .opened }
-
-  pub hand-inside : next < length d
-  hand-inside = here-inside v d next end stands more
-
-  pub hand-fits : end + runLen v d next ≤ length (levels v d)
-  hand-fits = here-fits v d next end stands more
-
-  pub hand-next : (len after : ℕ) → len ≡ runLen v d next → after ≡ runNext v d next → (0 < len) × InHand v d next end (end + len) after
-  hand-next len after e f =
-      let n = here-next v d next end stands more len after e f in
-      let low = here-low v d next end stands more in (
-        n .0,
-        record {
-          within = n .1 .within;
-          rest = n .1 .rest;
-          opened = n .1 .opened;
-          inside = omega (arith, hand-inside);
-          held = λ a l h. k .past a l ∙ run-in v d next (a - end) hand-inside low (omega arith);
-          past = λ a h.
-              let less : a - end - runLen v d next ≡ a - (end + len) = omega arith in
-              k .past a (omega arith) ∙ run-past v d next (a - end) hand-inside low (omega arith) ∙ (λ i. recordOf v (drop (sym f i) d) (sym f i) (less i));
-        },
-      )
+pub record-held : (v : ℕ) (s : List ℕ) (at bins a : ℕ) → Stands v s at bins → bins ≤ a → a < bins + runLen v s at → a < length (levels v s) → recordOf v s 0 a ≡ record { offset = at; before = a - bins }
+record-held v s at bins a k l h some =
+    let front : 0 + at ≡ at = omega arith in
+    found v s at 0 a bins (k .opened) (here-inside v s at bins k (omega arith)) (omega (arith, k .within, simp length-drop at (ap length (k .rest)))) l h
+    ∙ (λ j. record { offset = front j; before = a - bins })
 
 -- ---- decoding from the record of bin a gives the bins from a on
 pub record Right (v : ℕ) (t : List ℕ) (at a : ℕ) (rec : RayRecord) : Type 0 where

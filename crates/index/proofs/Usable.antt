@@ -1,24 +1,23 @@
 -- When decoding from a record is to be had, by what stands at its octet.
-use Prim.Native.Nat.{ℕ, _+_, _-_, _≤_, _<_}
+use Prim.Native.Nat.{ℕ, _+_, _-_, _≤_, _<_, min}
 use mathlib.Core.Path.{_≡_, refl, sym, ap, _∙_}
-use mathlib.Core.Bool.{Bool, true, false, cond}
+use mathlib.Core.Bool.{Bool, true, false, false≢true, _&&_}
 use mathlib.Core.List.{List}
 use native.Mathlib.Omega.{arith}
 use lib.ListN.{length, take, drop, getD, length-drop}
 use lib.Seq.{take-all, drop-drop, getD-drop}
 use lib.Dec.{leb, ltb}
-use borrow.Author.Tests.{le-leb, lt-leb, lt-ltb, le-ltb, leb-true}
-use denote.Enum.Declared.{tagOf}
-use Rattle.runs.specs.declared.Step.{Step}
-use Rattle.runs.specs.declared.Step.the-variants.{Run, Above, Longer, End}
-use Rattle.runs.proofs.Step.{the-type}
+use borrow.Author.Tests.{le-leb, lt-leb, lt-ltb, le-ltb, leb-true, ltb-true}
 use Rattle.runs.specs.Run.{levels, opens, runLen, digitSum}
-use Rattle.runs.specs.Inner.{runNext, stepAt}
 use Rattle.octets.proofs.Orders.{by-order}
 use Rattle.lent.proofs.Lent.{drop-here}
-use Rattle.runs.proofs.Steps.{stepAt-end, stepAt-above, stepAt-run}
 use Rattle.index.specs.declared.RayRecord.{RayRecord}
 use Rattle.index.specs.Index.{usable}
+use Rattle.index.specs.Pace.{longerRun}
+
+both : (x y : Bool) → x && y ≡ true → (x ≡ true) × (y ≡ true)
+both true y e = (refl, e)
+both false y e = absurd (false≢true e)
 
 -- ---- the four conditions, one by one
 module _ (v nb : ℕ) (s : List ℕ) (p : RayRecord) where
@@ -38,35 +37,43 @@ module _ (v nb : ℕ) (s : List ℕ) (p : RayRecord) where
   unfolding usable
   usable-left i l h = simp (lt-ltb _ _ i, le-leb _ _ l, lt-ltb _ _ h)
 
--- ---- a record at the front, by the step there with its earlier bins for the cap
-told : (t : Bool) (o l n : ℕ) → Longer ≡ cond t (Run o l n) Longer → t ≡ false
-told true o l n e = absurd (let w : _≡_ {A = ℕ} 0 1 = cc e in omega arith)
-told false o l n e = refl
-
+-- ---- a record at the front, by the run there
 module _ (v nb : ℕ) (s : List ℕ) (b : ℕ) where
   abbrev here : RayRecord
   here = record { offset = 0; before = b }
 
-  pub over-there : Longer ≡ stepAt v b s 0 → (0 < length s) × (getD s 0 0 ≤ v) × (b < runLen v s 0)
-  over-there e =
-      by-order (length s) 0
-      (λ h. absurd (let w : _≡_ {A = ℕ} 0 1 = cc (e ∙ sym (stepAt-end v b s 0 h)) in omega arith))
-      (λ i.
-      by-order (getD s 0 0) v
-      (λ l.
+  pub longer-none : length s ≡ 0 → false ≡ longerRun v s b
+  unfolding longerRun
+  longer-none h = simp (le-ltb 0 (length s) (omega arith))
+
+  pub longer-above : 0 < length s → v < getD s 0 0 → false ≡ longerRun v s b
+  unfolding longerRun
+  longer-above i h = simp (lt-ltb 0 (length s) i, lt-leb (getD s 0 0) v h)
+
+  -- by the run, cut off past so many bins
+  pub longer-cut : 0 < length s → getD s 0 0 ≤ v → (n : ℕ) → n ≡ min (runLen v s 0) (b + 1) → ltb b n ≡ longerRun v s b
+  unfolding longerRun
+  longer-cut i l n e =
       by-order (runLen v s 0) b
-      (λ h. absurd (let w : _≡_ {A = ℕ} 0 1 = cc (sym (told (leb (runLen v s 0) b) (getD s 0 0) (runLen v s 0) (runNext v s 0) (e ∙ sym (stepAt-run v b s 0 i l))) ∙ le-leb (runLen v s 0) b h) in omega arith))
-      (λ h. (i, l, h)))
-      (λ h. absurd (let w : _≡_ {A = ℕ} 0 1 = cc (e ∙ sym (stepAt-above v b s 0 i h)) in omega arith)))
+      (λ h. le-ltb b n (omega arith) ∙ sym (simp (lt-ltb 0 (length s) i, le-leb (getD s 0 0) v l, le-ltb b (runLen v s 0) h)))
+      (λ h. lt-ltb b n (omega arith) ∙ sym (simp (lt-ltb 0 (length s) i, le-leb (getD s 0 0) v l, lt-ltb b (runLen v s 0) h)))
 
-  pub over-opens : Longer ≡ stepAt v b s 0 → opens v s ≡ true
-  over-opens e = let t = over-there e in ap (opens v) (drop-here s 0 (t .0)) ∙ le-leb (getD s 0 0) v (t .1)
+  longer-there : longerRun v s b ≡ true → (0 < length s) × (getD s 0 0 ≤ v) × (b < runLen v s 0)
+  unfolding longerRun
+  longer-there e =
+      let p = both (ltb 0 (length s)) (leb (getD s 0 0) v && ltb b (runLen v s 0)) e in
+      let q = both (leb (getD s 0 0) v) (ltb b (runLen v s 0)) (p .1) in
+      (ltb-true _ _ (p .0), leb-true _ _ (q .0), ltb-true _ _ (q .1))
 
-  pub over-usable : Longer ≡ stepAt v b s 0 → usable v nb s here ≡ leb (b + nb) (length (levels v s))
-  over-usable e = let t = over-there e in usable-left v nb s here (t .0) (t .1) (t .2)
+  pub longer-opens : longerRun v s b ≡ true → opens v s ≡ true
+  longer-opens e = let t = longer-there e in ap (opens v) (drop-here s 0 (t .0)) ∙ le-leb (getD s 0 0) v (t .1)
 
-  pub other-usable : (step : Step) → step ≡ stepAt v b s 0 → (tagOf the-type step ≡ 2 → ⊥) → usable v nb s here ≡ false
-  other-usable step e other =
+  pub longer-usable : longerRun v s b ≡ true → usable v nb s here ≡ leb (b + nb) (length (levels v s))
+  longer-usable e = let t = longer-there e in usable-left v nb s here (t .0) (t .1) (t .2)
+
+  pub shorter-usable : longerRun v s b ≡ false → usable v nb s here ≡ false
+  unfolding longerRun
+  shorter-usable e =
       by-order (length s) 0
       (λ h. usable-outside v nb s here h)
       (λ i.
@@ -74,7 +81,7 @@ module _ (v nb : ℕ) (s : List ℕ) (b : ℕ) where
       (λ l.
       by-order (runLen v s 0) b
       (λ h. usable-reached v nb s here i l h)
-      (λ h. absurd (other (ap (tagOf the-type) (e ∙ sym (stepAt-run v b s 0 i l) ∙ ap (λ (t : Bool). cond t (Run (getD s 0 0) (runLen v s 0) (runNext v s 0)) Longer) (lt-leb (runLen v s 0) b h))))))
+      (λ h. absurd (false≢true (sym e ∙ simp (lt-ltb _ _ i, le-leb _ _ l, lt-ltb _ _ h)))))
       (λ h. usable-above v nb s here i h))
 
 -- ---- a record at an offset is one at the front of the octets from there on

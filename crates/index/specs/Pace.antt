@@ -1,26 +1,23 @@
--- The walk over the runs of accepted data, ray by ray, that makes the records.
+-- What the crate's own functions ask of each other and leave: the run at a record's octet; the walk over the runs of accepted data, ray by ray, that makes the records.
 use Prim.Native.Nat.{ℕ, _+_, _-_, _*_, _≤_, _<_}
 use mathlib.Core.Path.{_≡_}
-use mathlib.Core.Bool.{true}
+use mathlib.Core.Bool.{Bool, _&&_}
 use mathlib.Core.List.{List}
-use lib.ListN.{length, take, drop}
-use Rattle.runs.specs.Run.{levels, opens}
+use lib.ListN.{length, take, drop, getD}
+use lib.Dec.{leb, ltb}
+use Rattle.runs.specs.Run.{levels, runLen}
+use Rattle.runs.specs.Inner.{InHand}
 use Rattle.index.specs.declared.RayRecord.{RayRecord}
 use Rattle.index.specs.declared.Pace.{Pace}
 use Rattle.index.specs.Index.{recordOf}
 
+-- a level octet stands at the front, and its run has more bins than so many
+unfoldable pub longerRun : ℕ → List ℕ → ℕ → Bool
+longerRun v s n = ltb 0 (length s) && (leb (getD s 0 0) v && ltb n (runLen v s 0))
+
 -- the data in the octets lent
 abbrev pub dataIn : List ℕ → Pace → List ℕ
 dataIn s p = take (p .to - p .from) (drop (p .from) s)
-
--- the walk has a run in hand, bins `bins` up to `end` of what the data d gives, and stands past it at `next`
-pub record InHand (v : ℕ) (d : List ℕ) (at bins end next : ℕ) : Type 0 where
-  pub within : end ≤ length (levels v d)
-  pub rest : drop end (levels v d) ≡ levels v (drop next d)
-  pub opened : opens v (drop next d) ≡ true
-  pub inside : at ≤ length d
-  pub held : (a : ℕ) → bins ≤ a → a < end → recordOf v d 0 a ≡ record { offset = at; before = a - bins }
-  pub past : (a : ℕ) → end ≤ a → recordOf v d 0 a ≡ recordOf v (drop next d) next (a - end)
 
 -- the next ray does not begin before that run
 pub record Along (d : List ℕ) (p : Pace) : Type 0 where
@@ -28,8 +25,8 @@ pub record Along (d : List ℕ) (p : Pace) : Type 0 where
   pub few : length (levels (p .v) d) ≤ 2097152
   pub short : length d ≤ 4294967295
   pub ray : p .nb ≤ 2097152
-  pub before : p .bins ≤ p .bin
-  pub run : InHand (p .v) d (p .at) (p .bins) (p .end) (p .next)
+  pub before : p .hand .bins ≤ p .bin
+  pub run : InHand (p .v) d (p .hand)
 
 -- one ray on
 pub record Onward (d : List ℕ) (p r : Pace) : Type 0 where

@@ -1,6 +1,7 @@
 // An index of a cut's rays (FORMAT.md, "Rays by a record"): where in the data each ray begins, and what decoding from such a place gives. specs/Index.antt says both. The data is bare octets
 // here, and for decoding from a record nothing is asked of it. Below it stands `runs`; above it `cuts`, which knows the data of a cut, and `records`, whose calls make the
 // file's checks.
+use runs::RunInHand;
 use runs::Step;
 ghost use mathlib.Core.Bool.{true, cond};
 ghost use mathlib.Core.Path.{_≡_};
@@ -8,9 +9,9 @@ ghost use Prim.Native.Nat.{_-_, _≤_, _<_};
 ghost use lib.ListN.{length, take};
 ghost use lib.Dec.{leb};
 ghost use Rattle.runs.specs.Run.{levels, opens};
-ghost use Rattle.lent.specs.Lent.{front, between};
+ghost use Rattle.lent.specs.Lent.{front};
 ghost use Rattle.index.specs.Index.{usable, fromRecord, records};
-ghost use Rattle.index.specs.Pace.{dataIn, Along, Onward, Going};
+ghost use Rattle.index.specs.Pace.{longerRun, dataIn, Along, Onward, Going};
 
 // Where a ray begins: the offset in the data of the level octet whose run holds its first bin, and how many bins of that run came before.
 #[repr(C)]
@@ -26,39 +27,21 @@ fn reaches(octets: &[u8], v: u8, want: usize) -> bool
 {
     let mut at: usize = 0;
     let mut bins: usize = 0;
-    while bins < want {
-        if octets.len() <= at {
-            return false;
+    loop {
+        match runs::run_upto(octets, v, at, want - bins) {
+            Step::Run {
+                level: _,
+                len,
+                next,
+            } => {
+                bins += len;
+                at = next;
+            }
+            Step::End => {
+                return bins == want;
+            }
         }
-        let run = runs::run_upto(octets, v, at, want - bins);
-        bins += run.len;
-        at = run.next;
     }
-    true
-}
-
-// The bins a up to b of what the octets give, at the front of out, however long their runs are; or false where the octets end first: out then holds
-// what there was of them.
-fn paint(octets: &[u8], v: u8, a: usize, b: usize, out: &mut [u8]) -> bool
-    requires { ⌜ (v ≤ 253) × (b ≤ 1099511627775) × (opens v (now octets) ≡ true) ⌝ }
-    requires { ⌜ (a ≤ b) × (b - a ≤ length (now out)) ⌝ }
-    ensures { λ r. ⌜ r ≡ leb b (length (levels v (now (octets .entry)))) ⌝ }
-    ensures { λ r. ⌜ (r ≡ true → now (out .exit) ≡ front (between a b (levels v (now (octets .entry)))) (now (out .entry))) ⌝ }
-{
-    let mut at: usize = 0;
-    let mut bins: usize = 0;
-    while bins < b {
-        if octets.len() <= at {
-            return false;
-        }
-        let level = octets[at];
-        let run = runs::run_upto(octets, v, at, b - bins);
-        let to = bins + run.len;
-        lent::stamp(out, runs::excess(bins, a), runs::excess(to, a), level);
-        bins = to;
-        at = run.next;
-    }
-    true
 }
 
 // The first n octets of a row, at the front of out.
@@ -69,6 +52,27 @@ fn carry(row: &[u8], n: usize, out: &mut [u8])
     lent::put_octets(out, 0, &row[..n]);
 }
 
+// Whether a run of more than so many bins stands at the octets' front.
+fn longer(octets: &[u8], v: u8, before: usize) -> bool
+    requires { ⌜ (v ≤ 253) × (before ≤ 4294967295) ⌝ }
+    ensures { λ r. ⌜ r ≡ longerRun v (now (octets .entry)) before ⌝ }
+{
+    if octets.len() == 0 {
+        return false;
+    }
+    if v < octets[0] {
+        return false;
+    }
+    match runs::run_upto(octets, v, 0, before + 1) {
+        Step::Run {
+            level: _,
+            len,
+            next: _,
+        } => before < len,
+        Step::End => false,
+    }
+}
+
 // The levels from a record at the octets' front, whose earlier bins are given. They are decoded once, into a row of our own: not until the last of them is
 // there is it known that the record fits, and where it does not the lent memory is as it was.
 fn levels_in(octets: &[u8], v: u8, nb: usize, before: usize, out: &mut [u8]) -> bool
@@ -76,12 +80,11 @@ fn levels_in(octets: &[u8], v: u8, nb: usize, before: usize, out: &mut [u8]) -> 
     ensures { λ r. ⌜ r ≡ usable v nb (now (octets .entry)) (record { offset = 0; before = before }) ⌝ }
     ensures { λ r. ⌜ now (out .exit) ≡ cond r (front (fromRecord v nb (now (octets .entry)) (record { offset = 0; before = before })) (now (out .entry))) (now (out .entry)) ⌝ }
 {
-    let first = runs::run_at(octets, v, 0, before);
-    let Step::Longer = first else {
-        return false; // no level octet, or a run that the earlier bins reach the end of
-    };
+    if !longer(octets, v, before) {
+        return false;
+    }
     let mut row = [0u8; 2048];
-    if paint(octets, v, before, before + nb, &mut row) {
+    if runs::levels_upto(octets, v, before, before + nb, &mut row) {
         carry(&row, nb, out);
         return true;
     }
@@ -107,10 +110,9 @@ fn fits_in(octets: &[u8], v: u8, nb: usize, before: usize) -> bool
     requires { ⌜ (v ≤ 253) × (nb ≤ 2048) × (before ≤ 4294967295) ⌝ }
     ensures { λ r. ⌜ r ≡ usable v nb (now (octets .entry)) (record { offset = 0; before = before }) ⌝ }
 {
-    let first = runs::run_at(octets, v, 0, before);
-    let Step::Longer = first else {
+    if !longer(octets, v, before) {
         return false;
-    };
+    }
     reaches(octets, v, before + nb)
 }
 
@@ -128,8 +130,7 @@ pub fn fits(octets: &[u8], v: u8, nb: usize, rec: RayRecord) -> bool
 }
 
 // The walk over the runs of a cut's data, ray by ray: the record made last; where the data stands in the octets lent, V and the bins of a
-// ray; the first bin of the next ray; and the run in hand: its octet's place in the data, the bins before it and up to its end, and the
-// place past its digits.
+// ray; the first bin of the next ray; and the run in hand.
 pub struct Pace {
     pub rec: RayRecord,
     pub from: usize,
@@ -137,15 +138,12 @@ pub struct Pace {
     pub v: u8,
     pub nb: usize,
     pub bin: usize,
-    pub at: usize,
-    pub bins: usize,
-    pub end: usize,
-    pub next: usize,
+    pub hand: RunInHand,
 }
 
 // Before the first run.
 pub fn at_front(from: usize, to: usize, v: u8, nb: usize) -> Pace
-    ensures { λ r. ⌜ r ≡ record { rec = record { offset = 0; before = 0 }; from = from; to = to; v = v; nb = nb; bin = 0; at = 0; bins = 0; end = 0; next = 0 } ⌝ }
+    ensures { λ r. ⌜ r ≡ record { rec = record { offset = 0; before = 0 }; from = from; to = to; v = v; nb = nb; bin = 0; hand = record { at = 0; bins = 0; end = 0; next = 0 } } ⌝ }
 {
     Pace {
         rec: RayRecord {
@@ -157,10 +155,12 @@ pub fn at_front(from: usize, to: usize, v: u8, nb: usize) -> Pace
         v,
         nb,
         bin: 0,
-        at: 0,
-        bins: 0,
-        end: 0,
-        next: 0,
+        hand: RunInHand {
+            at: 0,
+            bins: 0,
+            end: 0,
+            next: 0,
+        },
     }
 }
 
@@ -169,33 +169,20 @@ fn ray_on(part: &[u8], p: Pace) -> Pace
     requires { ⌜ Along (now part) p × (p .bin < length (levels (p .v) (now part))) ⌝ }
     ensures { λ r. ⌜ Onward (now (part .entry)) p r ⌝ }
 {
-    let v = p.v;
     let bin = p.bin;
-    let mut at = p.at;
-    let mut bins = p.bins;
-    let mut end = p.end;
-    let mut next = p.next;
-    while end <= bin {
-        let run = runs::known_run(part, v, next);
-        at = next;
-        bins = end;
-        end += run.len;
-        next = run.next;
-    }
+    let held = p.hand;
+    let hand = runs::seek_from(part, p.v, held, bin);
     Pace {
         rec: RayRecord {
-            offset: at as u32,
-            before: (bin - bins) as u32,
+            offset: hand.at as u32,
+            before: (bin - hand.bins) as u32,
         },
         from: p.from,
         to: p.to,
-        v,
+        v: p.v,
         nb: p.nb,
         bin: bin + p.nb,
-        at,
-        bins,
-        end,
-        next,
+        hand,
     }
 }
 

@@ -12,7 +12,7 @@ use Rattle.index.specs.declared.RayRecord.{RayRecord}
 use Rattle.index.specs.declared.Pace.{Pace}
 use Rattle.index.specs.Index.{records}
 use Rattle.index.specs.Pace.{dataIn, Along, Going}
-use Rattle.index.proofs.Records.{hand-first}
+use Rattle.runs.proofs.Here.{hand-first}
 use Rattle.sections.specs.Parts.{binsIn, raysIn}
 use Rattle.sections.specs.declared.Cut.{Cut}
 use Rattle.base_format.specs.Parts.{dataAt, greatestIn}
@@ -32,7 +32,7 @@ use Rattle.cuts.specs.Records.{recordsIn}
 
 -- ---- nothing to lay
 abbrev nowhere : Pace
-nowhere = record { rec = record { offset = 0; before = 0 }; from = 0; to = 0; v = 0; nb = 0; bin = 0; at = 0; bins = 0; end = 0; next = 0 }
+nowhere = record { rec = record { offset = 0; before = 0 }; from = 0; to = 0; v = 0; nb = 0; bin = 0; hand = record { at = 0; bins = 0; end = 0; next = 0 } }
 
 pub none-going : (s : List ℕ) (p : Pace) → p ≡ nowhere → Going s p 0
 none-going s p e =

@@ -25,10 +25,7 @@ startIn s c = record {
   v = greatestIn s c;
   nb = binsIn s c;
   bin = 0;
-  at = 0;
-  bins = 0;
-  end = 0;
-  next = 0;
+  hand = record { at = 0; bins = 0; end = 0; next = 0 };
 }
 
 -- what `lay` leaves by it

@@ -8,7 +8,9 @@ use native.Mathlib.Omega.{arith}
 use lib.ListN.{length, drop, getD, drop-of-length-le}
 use lib.Dec.{leb}
 use Rattle.runs.specs.Run.{base, runLen}
-use Rattle.runs.specs.Inner.{digitCount, runNext}
+use Rattle.runs.specs.Inner.{digitCount, runNext, knownStep}
+use Rattle.runs.specs.declared.Step.the-variants.{Run, End}
+use borrow.Author.Tests.{eq-eqb, ne-eqb}
 use Rattle.lent.proofs.Lent.{drop-here}
 use Rattle.runs.proofs.Bins.{Weighs, weighs-same, next-weighs, same-digit}
 use Rattle.runs.proofs.Steps.{dsum, dsum-nil, dsum-open, dsum-digit, digitSum-is, digitCount-nil, digitCount-open, digitCount-digit}
@@ -65,3 +67,13 @@ module _ {v : ℕ} {s : List ℕ} {at i len w : ℕ} (k : Still v s at i len w) 
       sum = omega (arith, same, digit-is, k .sum);
       count = omega (arith, count-is, k .count);
     }
+
+-- ---- what the step answers there
+module _ (v left : ℕ) (s : List ℕ) (at : ℕ) where
+  pub known-none : left ≡ 0 → End ≡ knownStep v left s at
+  unfolding knownStep
+  known-none h = simp (eq-eqb left 0 h)
+
+  pub known-is : (left ≡ 0 → ⊥) → (len next : ℕ) → (len ≡ runLen v s at) × (next ≡ runNext v s at) → Run (getD s at 0) len next ≡ knownStep v left s at
+  unfolding knownStep
+  known-is h len next k = simp (ne-eqb left 0 h) (λ i. Run (getD s at 0) (k .0 i) (k .1 i))

@@ -7,11 +7,11 @@ use native.Mathlib.Omega.{arith}
 use lib.ListN.{length, drop, getD, replicate, length-append, length-replicate, length-drop, drop-of-length-le, getD-replicate, List·getD-append}
 use lib.Seq.{drop-drop, drop-at, getD-append-add, getD-drop}
 use lib.Dec.{leb, eqb}
-use borrow.Author.Tests.{le-leb, leb-true, eqb-true}
+use borrow.Author.Tests.{le-leb, leb-true, eqb-true, eqb-false}
 use Rattle.runs.specs.Run.{digitSum, levels, opens, gives, runLen}
-use Rattle.runs.specs.Inner.{digitCount, runNext}
-use Rattle.runs.specs.Inner.{Holds}
-use Rattle.runs.specs.declared.HoldingRun.{HoldingRun}
+use Rattle.runs.specs.Inner.{digitCount, runNext, knownStep, Stands, InHand, Holds}
+use Rattle.runs.specs.declared.RunInHand.{RunInHand}
+use Rattle.runs.specs.declared.Step.the-variants.{Run, End}
 use Rattle.runs.specs.declared.Scan.the-variants.{Exact, Off}
 use Rattle.octets.proofs.Orders.{by-order}
 use Rattle.lent.proofs.Lent.{drop-here}
@@ -87,17 +87,17 @@ module _ (v : ℕ) (s : List ℕ) (at : ℕ) (opened : opens v (drop at s) ≡ t
   pub level-low : getD s at 0 ≤ v
   level-low = leb-true (getD s at 0) v (rw (drop-here s at level-inside) at opened)
 
--- ---- where reading stands: `bins` of the levels were read, and those of the octets from `at` on come after them
-pub record Stands (v : ℕ) (s : List ℕ) (at bins : ℕ) : Type 0 where
-  pub within : bins ≤ length (levels v s)
-  pub rest : drop bins (levels v s) ≡ levels v (drop at s)
-  pub opened : opens v (drop at s) ≡ true
-
+-- ---- where reading stands
 pub stands-first : (v : ℕ) (s : List ℕ) → opens v s ≡ true → Stands v s 0 0
 stands-first v s o = record { within = omega arith; rest = refl; opened = o }
 
-pub stands-holding : (v : ℕ) (s : List ℕ) (a : ℕ) (holding : HoldingRun) → a < length (levels v s) → Holds v s a holding → Stands v s (holding .at) (holding .bins)
-stands-holding v s a holding inside h = record { within = omega (arith, h .before); rest = h .rest; opened = h .opened }
+-- before the first run none is in hand
+pub hand-first : (v : ℕ) (s : List ℕ) → opens v s ≡ true → InHand v s (record { at = 0; bins = 0; end = 0; next = 0 })
+hand-first v s o = record { past = stands-first v s o; held = λ none. absurd (omega arith) }
+
+-- the run in hand that holds a bin
+pub stands-holding : (v : ℕ) (s : List ℕ) (a : ℕ) (hand : RunInHand) → Holds v s a hand → Stands v s (hand .at) (hand .bins) × (hand .end ≡ hand .bins + runLen v s (hand .at))
+stands-holding v s a hand h = h .is .held (omega (arith, h .before, h .inside))
 
 -- the run there, as long as there are levels to come
 module _ (v : ℕ) (s : List ℕ) (at bins : ℕ) (k : Stands v s at bins) (more : bins < length (levels v s)) where
@@ -151,6 +151,24 @@ module _ (v : ℕ) (s : List ℕ) (at bins : ℕ) (k : Stands v s at bins) (more
       opened = ap (λ (n : ℕ). opens v (drop n s)) f ∙ run-opens v s at here-inside here-low;
     },
   )
+
+-- ---- what the step tells where the run is known
+module _ (v left : ℕ) (s : List ℕ) (at : ℕ) where
+  pub known-ended : End ≡ knownStep v left s at → left ≡ 0
+  unfolding knownStep
+  known-ended e = split (eqb left 0) refl e
+    where
+      split : (b : Bool) → eqb left 0 ≡ b → End ≡ cond b End (Run (getD s at 0) (runLen v s at) (runNext v s at)) → left ≡ 0
+      split true t e = eqb-true left 0 t
+      split false t e = absurd (let z : _≡_ {A = ℕ} 0 1 = cc e in omega arith)
+
+  pub known-told : (x y z : ℕ) → Run x y z ≡ knownStep v left s at → (0 < left) × (x ≡ getD s at 0) × (y ≡ runLen v s at) × (z ≡ runNext v s at)
+  unfolding knownStep
+  known-told x y z e = split (eqb left 0) refl e
+    where
+      split : (b : Bool) → eqb left 0 ≡ b → Run x y z ≡ cond b End (Run (getD s at 0) (runLen v s at) (runNext v s at)) → (0 < left) × (x ≡ getD s at 0) × (y ≡ runLen v s at) × (z ≡ runNext v s at)
+      split true t e = absurd (let z : _≡_ {A = ℕ} 0 1 = cc e in omega arith)
+      split false t e = (omega (arith, eqb-false left 0 t), cc e, cc e, cc e)
 
 -- ---- what a scan tells
 pub told : (b : Bool) → Exact ≡ cond b Exact Off → b ≡ true

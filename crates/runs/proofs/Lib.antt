@@ -5,3 +5,4 @@ pub mod Here
 pub mod Digits
 pub mod Meaning
 pub mod Upto
+pub mod Passed

@@ -14,7 +14,8 @@ use lib.Dec.{leb, ltb}
 use borrow.Author.Tests.{ltb-true}
 use Rattle.runs.specs.Run.{levels, opens, runLen}
 use Rattle.runs.specs.Inner.{runNext}
-use Rattle.runs.proofs.Here.{Stands, stands-first, here-inside, here-fits, here-level, here-next}
+use Rattle.runs.specs.Inner.{Stands}
+use Rattle.runs.proofs.Here.{stands-first, here-inside, here-fits, here-level, here-next}
 use Rattle.stretches.specs.Stretch.{Entry, KindOfLevel, perEntry, kindAt, starts, entryAt, listFrom, fromPlace, words, wordsOf}
 use Rattle.stretches.specs.Inner.{mustList}
 use Rattle.stretches.specs.Call.{answer, stretchesFrom, answerOf, outOf}

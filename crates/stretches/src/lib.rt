@@ -3,6 +3,7 @@
 // portions of a fetching join to it. Stands on `runs` (a cut's levels) and `values` (the kind of a level); `polar` calls it for a file.
 //
 // The work goes straight over the runs: in time it is the data's octets and the entries, whatever the number of bins.
+use runs::Step;
 use values::Product;
 ghost use mathlib.Core.Bool.{true};
 ghost use mathlib.Core.Path.{_≡_};
@@ -77,10 +78,16 @@ fn list_by(
     let mut first: usize = 0;
     let mut held: u32 = 0;
     let mut count: usize = 0;
-    while ray < nr {
-        let level = octets[at];
-        let run = runs::known_run(octets, v, at);
-        at = run.next;
+    loop {
+        let step = runs::known_run(octets, v, at, nr - ray);
+        let Step::Run { level, len, next } = step else {
+            return Listing {
+                count,
+                ray: nr,
+                bin: 0,
+            };
+        };
+        at = next;
         let kind = kinds[level as usize];
         if kind != held {
             if must_list(nb, from, ray, first, bin) {
@@ -97,7 +104,7 @@ fn list_by(
             first = bin;
             held = kind;
         }
-        bin = bin + run.len;
+        bin = bin + len;
         while nb <= bin {
             if must_list(nb, from, ray, first, nb) {
                 if cap <= count {
@@ -114,11 +121,6 @@ fn list_by(
             bin = bin - nb;
             first = 0;
         }
-    }
-    Listing {
-        count,
-        ray: nr,
-        bin: 0,
     }
 }
 

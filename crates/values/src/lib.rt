@@ -3,8 +3,9 @@
 // `fraction` (a value as a float); `base_format` judges section 5 with it, `cuts` and `stretches` take readings and kinds from it.
 //
 // A constant table that a loop indexes is laid out anew at each use. So whatever loops over levels is lent the table as a slice,
-// and one function on the product above it lends it.
+// and one function on the product above it has the table and lends it.
 use kinds::Kind;
+use runs::Step;
 ghost use mathlib.Core.Path.{_≡_};
 ghost use Prim.Native.Nat.{_≤_, _<_, _-_};
 ghost use lib.ListN.{length, replicate};
@@ -71,8 +72,14 @@ pub fn reading_of(product: Product, level: u8) -> Reading
     ensures { λ r. ⌜ r ≡ readingOf product level ⌝ }
 {
     match product {
-        Product::Reflectivity => reading_in(product, &tables::REFLECTIVITY, level),
-        Product::Velocity => reading_in(product, &tables::VELOCITY, level),
+        Product::Reflectivity => {
+            let table = tables::reflectivity_table();
+            reading_in(product, &table, level)
+        }
+        Product::Velocity => {
+            let table = tables::velocity_table();
+            reading_in(product, &table, level)
+        }
     }
 }
 
@@ -137,8 +144,14 @@ pub fn kinds_by(product: Product, t: i32) -> [u32; 256]
     ensures { λ r. ⌜ KindsBy product t r ⌝ }
 {
     match product {
-        Product::Reflectivity => kinds_in(product, &tables::REFLECTIVITY, t),
-        Product::Velocity => kinds_in(product, &tables::VELOCITY, t),
+        Product::Reflectivity => {
+            let table = tables::reflectivity_table();
+            kinds_in(product, &table, t)
+        }
+        Product::Velocity => {
+            let table = tables::velocity_table();
+            kinds_in(product, &table, t)
+        }
     }
 }
 
@@ -170,19 +183,25 @@ fn readings_in(
 {
     let mut at: usize = 0;
     let mut bins: usize = 0;
-    while bins < b {
-        let reading = reading_in(product, table, octets[at]);
-        let run = runs::run_upto(octets, v, at, b - bins);
-        let to = bins + run.len;
-        put_reading(
-            reading,
-            runs::excess(bins, a),
-            runs::excess(to, a),
-            marks,
-            values,
-        );
-        bins = to;
-        at = run.next;
+    loop {
+        match runs::run_upto(octets, v, at, b - bins) {
+            Step::Run { level, len, next } => {
+                let reading = reading_in(product, table, level);
+                let to = bins + len;
+                put_reading(
+                    reading,
+                    runs::excess(bins, a),
+                    runs::excess(to, a),
+                    marks,
+                    values,
+                );
+                bins = to;
+                at = next;
+            }
+            Step::End => {
+                return;
+            }
+        }
     }
 }
 
@@ -201,26 +220,14 @@ pub fn readings_from(
     ensures { λ _. ⌜ now (values .exit) ≡ valuesOf product (between a b (levels v (now (octets .entry)))) (now (values .entry)) ⌝ }
 {
     match product {
-        Product::Reflectivity => readings_in(
-            product,
-            &tables::REFLECTIVITY,
-            octets,
-            v,
-            a,
-            b,
-            marks,
-            values,
-        ),
-        Product::Velocity => readings_in(
-            product,
-            &tables::VELOCITY,
-            octets,
-            v,
-            a,
-            b,
-            marks,
-            values,
-        ),
+        Product::Reflectivity => {
+            let table = tables::reflectivity_table();
+            readings_in(product, &table, octets, v, a, b, marks, values)
+        }
+        Product::Velocity => {
+            let table = tables::velocity_table();
+            readings_in(product, &table, octets, v, a, b, marks, values)
+        }
     }
 }
 
@@ -239,9 +246,9 @@ pub fn readings_into(
     ensures { λ _. ⌜ now (marks .exit) ≡ marksOf product (between a b (levels v (now (octets .entry)))) (now (marks .entry)) ⌝ }
     ensures { λ _. ⌜ now (values .exit) ≡ valuesOf product (between a b (levels v (now (octets .entry)))) (now (values .entry)) ⌝ }
 {
-    let holding = runs::seek(octets, v, a);
-    let at = holding.at;
-    let passed = holding.bins;
+    let hand = runs::seek(octets, v, a);
+    let at = hand.at;
+    let passed = hand.bins;
     readings_from(
         product,
         &octets[at..],
@@ -301,7 +308,13 @@ pub fn table_right(octets: &[u8], product: Product) -> bool
     ensures { λ r. ⌜ r ≡ tableRight (now (octets .entry)) product ⌝ }
 {
     match product {
-        Product::Reflectivity => right_in(octets, &tables::REFLECTIVITY),
-        Product::Velocity => right_in(octets, &tables::VELOCITY),
+        Product::Reflectivity => {
+            let table = tables::reflectivity_table();
+            right_in(octets, &table)
+        }
+        Product::Velocity => {
+            let table = tables::velocity_table();
+            right_in(octets, &table)
+        }
     }
 }

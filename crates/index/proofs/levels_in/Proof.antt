@@ -1,18 +1,17 @@
--- `levels_in` meets its contract: by what the step at the front answers, and whether the bins reach far enough; the row of its own holds them at its front.
+-- `levels_in` meets its contract: by the run at the front, and whether the bins reach far enough; the row of its own holds them at its front.
 use Prim.Native.Nat.{ℕ, _+_, _-_, _≤_}
 use mathlib.Core.Path.{_≡_, refl, sym, ap, _∙_}
 use mathlib.Core.Bool.{true}
-use mathlib.Core.Logic.{⊎-elim}
 use mathlib.Core.List.{List}
 use native.Mathlib.Omega.{arith}
 use lib.ListN.{length, take, drop}
 use lib.Seq.{take-at}
-use borrow.Author.Tests.{eqb-false, leb-true}
+use borrow.Author.Tests.{leb-true, not-true, not-false}
 use borrow.Author.Needs.{needs}
 use Rattle.runs.specs.Run.{levels}
 use Rattle.lent.specs.Lent.{front, between}
 use Rattle.lent.proofs.Lent.{length-between}
-use Rattle.index.proofs.Usable.{over-opens, over-usable, other-usable}
+use Rattle.index.proofs.Usable.{longer-opens, longer-usable, shorter-usable}
 use Rattle.index.proofs.levels_in.Statement.{statement}
 use Rattle.index.proofs.levels_in.Tie as tie
 
@@ -24,31 +23,30 @@ brought L row d a n far e =
     ap (take n) e ∙ take-at (between a (a + n) L) (drop (length (between a (a + n) L)) d) n size ∙ ap (λ (k : ℕ). take k (drop a L)) span
 
 returns : tie.Need-returns
-returns c = let s = c .before .before .before .before in let a = s .args in (
-  sym (other-usable (a .v) (a .nb) (a .octets .now) (a .before) _ (c .before .run-at .ensures)
-      (λ t. ⊎-elim (λ w. eqb-false 2 0 refl (sym t ∙ w)) (⊎-elim (λ w. eqb-false 2 1 refl (sym t ∙ w)) (λ w. eqb-false 2 3 refl (sym t ∙ w))) (c .match .keys2))),
-  refl,
-)
+returns c = let s : tie.Start = search in let a = s .args in (sym (shorter-usable (a .v) (a .nb) (a .octets .now) (a .before) (sym (c .before .longer .ensures) ∙ not-true _ (c .if1 .taken))), refl)
 
-paint-requires : tie.Need-paint-requires
-paint-requires c κs = let s = c .before .before .before .before .before .before in let a = s .args in
-    ((omega arith, omega arith, over-opens (a .v) (a .nb) (a .octets .now) (a .before) (sym (c .before .enum-told .given .1) ∙ c .before .before .before .run-at .ensures)), (omega arith, omega arith))
+levels-upto-requires : tie.Need-levels-upto-requires
+levels-upto-requires c κs = let s : tie.Start = search in let a = s .args in
+    ((omega arith, omega arith, longer-opens (a .v) (a .nb) (a .octets .now) (a .before) (sym (c .before .before .longer .ensures) ∙ not-false _ (c .before .if1 .left))), (omega arith, omega arith))
 
 returns-2 : tie.Need-returns-2
-returns-2 c = let s = c .before .before .before .before .before .before .before .before .before .before .before .before .before .before in let a = s .args in
-    let yes = c .before .before .before .before .before .if1 .taken in
-    let p = c .before .before .before .before .before .before .before .paint in
-    let step = sym (c .before .before .before .before .before .before .before .before .before .enum-told .given .1) ∙ c .before .before .before .before .before .before .before .before .before .before .before .run-at .ensures in
+returns-2 c = let s : tie.Start = search in let a = s .args in
+    let k : tie.After-longer = search in
+    let t : tie.After-levels-upto = search in
+    let yes = c .before .before .before .before .before .if2 .taken in
+    let p = t .levels-upto in
+    let first = sym (k .longer .ensures) ∙ not-false _ (t .before .before .if1 .left) in
     let far = leb-true (a .before + a .nb) (length (levels (a .v) (a .octets .now))) (sym (p .ensures .0) ∙ yes) in (
-      sym (over-usable (a .v) (a .nb) (a .octets .now) (a .before) step ∙ sym (p .ensures .0) ∙ yes),
+      sym (longer-usable (a .v) (a .nb) (a .octets .now) (a .before) first ∙ sym (p .ensures .0) ∙ yes),
       c .before .before .carry .ensures ∙ ap (λ (l : List ℕ). front l (a .out .now)) (brought (levels (a .v) (a .octets .now)) _ _ (a .before) (a .nb) far (p .ensures .1 yes)),
     )
 
 returns-3 : tie.Need-returns-3
-returns-3 c = let s = c .before .before .before .before .before .before .before .before .before in let a = s .args in
-    (sym (over-usable (a .v) (a .nb) (a .octets .now) (a .before) (sym (c .before .before .before .before .enum-told .given .1) ∙ c .before .before .before .before .before .before .run-at .ensures) ∙ sym (c .before .before .paint .ensures .0) ∙ c .if1 .left), refl)
+returns-3 c = let s : tie.Start = search in let a = s .args in
+    let t : tie.After-levels-upto = search in
+    (sym (longer-usable (a .v) (a .nb) (a .octets .now) (a .before) (sym (t .before .before .before .longer .ensures) ∙ not-false _ (t .before .before .if1 .left)) ∙ sym (t .levels-upto .ensures .0) ∙ c .if2 .left), refl)
 
 pub levels-in-spec : {M : Type 1} → statement M
 levels-in-spec =
-    tie.close (tie.spec (search needs) (search needs) returns (search needs) (search needs) paint-requires
+    tie.close (tie.spec (search needs) returns (search needs) (search needs) levels-upto-requires
     (search needs) (search needs) (search needs) returns-2 returns-3)

@@ -15,7 +15,7 @@ returns c = let s = c .before .before .before .before .before in let a = s .args
     let ev = c .before .before .before .greatest-in .ensures in
     let eb = c .before .before .bins-in .ensures in
     let el = c .before .length-at .ensures in
-    let e : c .at-front .result ≡ startIn (a .file .now) (a .c) = c .at-front .ensures ∙ (λ j. record { rec = record { offset = 0; before = 0 }; from = a .c .section7 + 5; to = a .c .section7 + el j; v = ev j; nb = eb j; bin = 0; at = 0; bins = 0; end = 0; next = 0 }) in
+    let e : c .at-front .result ≡ startIn (a .file .now) (a .c) = c .at-front .ensures ∙ (λ j. record { rec = record { offset = 0; before = 0 }; from = a .c .section7 + 5; to = a .c .section7 + el j; v = ev j; nb = eb j; bin = 0; hand = record { at = 0; bins = 0; end = 0; next = 0 } }) in
     (e, start-going (a .file .now) (a .c) (s .pre) (omega (arith, el, c .before .length-at .ok)) _ e)
 
 pub start-in-spec : {M : Type 1} → statement M

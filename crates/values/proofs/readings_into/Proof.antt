@@ -1,4 +1,4 @@
--- `readings_into` meets its contract: the bins lie in the octets from the spot of bin a on (Passed.antt).
+-- `readings_into` meets its contract: the bins lie in the octets from the run on that holds bin a (Passed.antt).
 use Prim.Native.Nat.{ℕ, _≤_}
 use mathlib.Core.Path.{_≡_, ap, _∙_}
 use mathlib.Core.List.{List}
@@ -6,7 +6,8 @@ use native.Mathlib.Omega.{arith}
 use lib.ListN.{length}
 use borrow.Author.Needs.{needs}
 use Rattle.values.specs.Ray.{marksOf, valuesOf}
-use Rattle.values.proofs.Passed.{base-low, at-inside, passed-asks, passed-gives}
+use Rattle.runs.proofs.Passed.{passed-inside, passed-bins}
+use Rattle.values.proofs.Passed.{base-low, passed-asks}
 use Rattle.values.proofs.readings_into.Statement.{statement}
 use Rattle.values.proofs.readings_into.Tie as tie
 
@@ -15,10 +16,10 @@ seek-requires c κs = let s = c .before .before in
     let p = s .pre .0 in
     ((base-low (s .args .product) (s .args .v) (p .low), p .opened, s .pre .1 .1), omega (arith, s .pre .1 .0, p .given))
 
--- the spot's octet stands in the octets
+-- that run's octet stands in the octets
 inside : (c : tie.After-seek) → let s = c .before .before .before in c .seek .result .at ≤ length (s .args .octets .now)
 inside c = let s = c .before .before .before in
-    omega (arith, at-inside (s .args .product) (s .args .v) (s .args .a) (s .args .b) (s .args .octets .now) _ _ (s .pre .0) (s .pre .1 .0) (c .seek .result) (c .seek .ensures))
+    omega (arith, passed-inside (s .args .v) (s .args .a) (s .args .b) (s .args .octets .now) (s .pre .1 .0) (s .pre .0 .given) (c .seek .result) (c .seek .ensures))
 
 sub-readings-from : tie.Need-sub-readings-from
 sub-readings-from c = inside c
@@ -39,7 +40,7 @@ readings-from-requires c κs = let s = c .before .before .before .before .before
 returns : tie.Need-returns
 returns c = let s = c .before .before .before .before .before .before .before .before .before .before in
     let k = c .before .before .before .before .before .before .before .seek in
-    let bins = passed-gives (s .args .product) (s .args .v) (s .args .a) (s .args .b) (s .args .octets .now) _ _ (s .pre .0) (s .pre .1 .0) (k .result) (k .ensures) in
+    let bins = passed-bins (s .args .v) (s .args .a) (s .args .b) (s .args .octets .now) (s .pre .1 .0) (s .pre .0 .given) (k .result) (k .ensures) in
     (c .before .before .before .readings-from .ensures .0 ∙ ap (λ (l : List ℕ). marksOf (s .args .product) l (s .args .marks .now)) bins, c .before .before .before .readings-from .ensures .1 ∙ ap (λ (l : List ℕ). valuesOf (s .args .product) l (s .args .values .now)) bins)
 
 pub readings-into-spec : {M : Type 1} → statement M
