@@ -1,6 +1,6 @@
 -- Demand 1 for the calls without a file, both ways: each refuses exactly where its reason holds, and answers exactly where none does. The tests are taken apart in their order: a call
 -- answers, or there is a reason; and where there is one it refuses so.
-use Prim.Native.Nat.{ℕ, _≤_, _<_}
+use Prim.Native.Nat.{ℕ}
 use mathlib.Core.Path.{_≡_, refl, sym, _∙_, subst}
 use mathlib.Core.Logic.{_⊎_, inl, inr, ⊎-elim, _↔_}
 use mathlib.Core.Bool.{Bool, true, false, cond, false≢true}

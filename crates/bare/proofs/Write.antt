@@ -14,7 +14,7 @@ use Rattle.bare.specs.declared.RunRead.the-variants as R
 use Rattle.runs.proofs.Meaning.{gives-exactly, levels-decode}
 use Rattle.bare.proofs.Read.{read-levels}
 use Rattle.bare.proofs.Reasons.{read-answered, write-answered, write-tells}
-use Rattle.bare.specs.Reasons.{ReadReason, WriteReason, by-count, by-level}
+use Rattle.bare.specs.Reasons.{ReadReason, by-count, by-level}
 use Rattle.bare.specs.declared.ReadRefusal.{ReadRefusal}
 use Rattle.packing.specs.Write.{greatest, written, packed}
 use Rattle.bare.specs.Write.{writeOut, WritePromise}
