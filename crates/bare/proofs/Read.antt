@@ -1,16 +1,14 @@
--- What the promises of run read and run check say: they answer a reading exactly where the octets decode to the bins wanted, and leave one outcome.
+-- What the promises of run read and run check leave in lent memory, that they leave one outcome, and that run check answers as run read would. When they answer is said in Reasons.antt.
 use Prim.Native.Nat.{ℕ, _≤_}
 use mathlib.Core.Path.{_≡_, refl, sym, ap, _∙_}
 use mathlib.Core.Bool.{Bool, true, false, cond}
 use mathlib.Core.List.{List}
-use native.Mathlib.Omega.{arith}
-use lib.ListN.{length}
 use lib.Dec.{ltb}
-use borrow.Author.Tests.{le-ltb, ltb-false}
+use borrow.Author.Tests.{le-ltb}
 use Rattle.runs.specs.Run.{levels, gives}
 use Rattle.runs.specs.Runs.{Decodes}
 use Rattle.lent.specs.Lent.{front}
-use Rattle.bare.specs.Read.{readAnswer, readOut, ReadPromise, Readable, checkAnswer, CheckPromise}
+use Rattle.bare.specs.Read.{readAnswer, readOut, ReadPromise, checkAnswer, CheckPromise}
 use Rattle.bare.specs.declared.ReadRefusal.{ReadRefusal}
 use Rattle.bare.specs.declared.ReadRefusal.the-variants as F
 use Rattle.bare.specs.declared.RunRead.{RunRead}
@@ -18,49 +16,11 @@ use Rattle.bare.specs.declared.RunRead.the-variants as R
 use Rattle.bare.specs.declared.CheckRefusal.the-variants as C
 use Rattle.bare.specs.declared.RunCheck.{RunCheck}
 use Rattle.bare.specs.declared.RunCheck.the-variants as K
-use Rattle.runs.proofs.Meaning.{decodes-levels, gives-exactly, exactly-gives}
+use Rattle.runs.proofs.Meaning.{decodes-levels}
 
 -- ---- run read
-refused-not-read : (why : ReadRefusal) → R.Refused why ≡ R.Read → ⊥
-refused-not-read why e = let z : _≡_ {A = ℕ} 0 1 = cc e in omega arith
-
-passes : (b : Bool) (why : ReadRefusal) (r : RunRead) → cond b (R.Refused why) r ≡ R.Read → (b ≡ false) × (r ≡ R.Read)
-passes false why r e = (refl, e)
-passes true why r e = absurd (refused-not-read why e)
-
-gave : (b : Bool) (why : ReadRefusal) → cond b R.Read (R.Refused why) ≡ R.Read → b ≡ true
-gave true why e = refl
-gave false why e = absurd (refused-not-read why e)
-
-read-readable : (v n room : ℕ) (s : List ℕ) → readAnswer v n room s ≡ R.Read → Readable v n room s
-unfolding readAnswer
-read-readable v n room s e =
-    let last : RunRead = cond (gives v n s) R.Read (R.Refused F.Data) in
-    let third : RunRead = cond (ltb room n) (R.Refused F.Room) last in
-    let second : RunRead = cond (ltb 2097152 n) (R.Refused F.Argument) third in
-    let one = passes (ltb 253 v) F.V second e in
-    let two = passes (ltb 2097152 n) F.Argument third (one .1) in
-    let three = passes (ltb room n) F.Room last (two .1) in
-    record {
-      low = ltb-false 253 v (one .0);
-      few = ltb-false 2097152 n (two .0);
-      room-enough = ltb-false room n (three .0);
-      exactly = gives-exactly v n s (gave (gives v n s) F.Data (three .1));
-    }
-
-readable-read : (v n room : ℕ) (s : List ℕ) → Readable v n room s → readAnswer v n room s ≡ R.Read
-unfolding readAnswer
-readable-read v n room s r =
-    simp (le-ltb 253 v (r .low), le-ltb 2097152 n (r .few), le-ltb room n (r .room-enough), exactly-gives v n s (r .exactly))
-
 module _ {v n : ℕ} {s d out : List ℕ} {answer : RunRead} (p : ReadPromise v n s d answer out) where
-  -- it reads exactly where it can, and then what stands in front is what the octets stand for
-  pub read-only : answer ≡ R.Read → Readable v n (length d) s
-  read-only e = read-readable v n (length d) s (sym (p .answered) ∙ e)
-
-  pub read-where : Readable v n (length d) s → answer ≡ R.Read
-  read-where r = p .answered ∙ readable-read v n (length d) s r
-
+  -- where it reads, what stands in front is what the octets stand for
   pub read-levels : answer ≡ R.Read → (ls : List ℕ) → Decodes v s ls → out ≡ front ls d
   read-levels e ls x =
       p .held ∙ (λ i. readOut (e i) (sym (decodes-levels x .1) i) d)

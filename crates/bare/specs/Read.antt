@@ -1,12 +1,11 @@
 -- FORMAT.md, "Calls" and "Refusals": what run read and run check answer, and what the lent levels then hold.
-use Prim.Native.Nat.{ℕ, _≤_}
+use Prim.Native.Nat.{ℕ}
 use mathlib.Core.Path.{_≡_}
 use mathlib.Core.List.{List}
 use mathlib.Core.Bool.{cond}
 use lib.ListN.{length}
 use lib.Dec.{ltb}
 use Rattle.runs.specs.Run.{levels, gives}
-use Rattle.runs.specs.Runs.{Exactly}
 use Rattle.lent.specs.Lent.{front}
 use Rattle.bare.specs.declared.ReadRefusal.{ReadRefusal}
 use Rattle.bare.specs.declared.ReadRefusal.the-variants as F
@@ -29,13 +28,6 @@ readAnswer v n room s =
 abbrev pub readOut : RunRead → List ℕ → List ℕ → List ℕ
 readOut Read p d = front p d
 readOut (Refused why) p d = d
-
--- when run read gives levels: V and n in range, room for n, and octets that stand for exactly n levels
-pub record Readable (v n room : ℕ) (s : List ℕ) : Type 0 where
-  pub low : v ≤ 253
-  pub few : n ≤ 2097152
-  pub room-enough : n ≤ room
-  pub exactly : Exactly v n s
 
 -- the promise of run read, s the octets and d the lent levels before it: the answer, and the lent levels after it
 pub record ReadPromise (v n : ℕ) (s d : List ℕ) (answer : RunRead) (out : List ℕ) : Type 0 where

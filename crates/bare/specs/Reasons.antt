@@ -6,15 +6,23 @@ use Rattle.runs.specs.Runs.{Exactly}
 use Rattle.packing.specs.Write.{greatest, packed}
 use Rattle.bare.specs.declared.ReadRefusal.{ReadRefusal}
 use Rattle.bare.specs.declared.ReadRefusal.the-variants as R
+use Rattle.bare.specs.declared.CheckRefusal.{CheckRefusal}
+use Rattle.bare.specs.declared.CheckRefusal.the-variants as C
 use Rattle.bare.specs.declared.WriteRefusal.{WriteRefusal}
 use Rattle.bare.specs.declared.WriteRefusal.the-variants as W
 
--- of octets s under V for n levels, with room for so many; run check has the same reasons, but for room
+-- of octets s under V for n levels, with room for so many
 pub data ReadReason (v n room : ℕ) (s : List ℕ) : ReadRefusal → Type 0 where
   by-v : 253 < v → ReadReason v n room s R.V
   by-argument : v ≤ 253 → 2097152 < n → ReadReason v n room s R.Argument
   by-room : v ≤ 253 → n ≤ 2097152 → room < n → ReadReason v n room s R.Room
   by-data : v ≤ 253 → n ≤ 2097152 → n ≤ room → (Exactly v n s → ⊥) → ReadReason v n room s R.Data
+
+-- run check: the same but for room, as nothing is lent
+pub data CheckReason (v n : ℕ) (s : List ℕ) : CheckRefusal → Type 0 where
+  by-v : 253 < v → CheckReason v n s C.V
+  by-argument : v ≤ 253 → 2097152 < n → CheckReason v n s C.Argument
+  by-data : v ≤ 253 → n ≤ 2097152 → (Exactly v n s → ⊥) → CheckReason v n s C.Data
 
 -- of levels s, with room for so many octets
 pub data WriteReason (room : ℕ) (s : List ℕ) : WriteRefusal → Type 0 where

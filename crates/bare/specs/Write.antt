@@ -1,5 +1,5 @@
 -- FORMAT.md, "Calls" and "Refusals": what run write answers, and what the lent octets then hold.
-use Prim.Native.Nat.{ℕ, _≤_}
+use Prim.Native.Nat.{ℕ}
 use mathlib.Core.Path.{_≡_}
 use mathlib.Core.List.{List}
 use mathlib.Core.Bool.{cond}
@@ -24,12 +24,6 @@ writeAnswer room s =
 abbrev pub writeOut : RunWrite → List ℕ → List ℕ → List ℕ
 writeOut (Wrote v n) p d = front p d
 writeOut (Refused why) p d = d
-
--- when run write writes: levels in number and size in range, and room for the exact written length
-pub record Writable (room : ℕ) (s : List ℕ) : Type 0 where
-  pub few : length s ≤ 2097152
-  pub low : greatest s ≤ 252
-  pub room-enough : length (packed s) ≤ room
 
 -- the promise of run write, s the levels and d the lent octets before it: the answer, and the lent octets after it
 pub record WritePromise (s d : List ℕ) (answer : RunWrite) (out : List ℕ) : Type 0 where

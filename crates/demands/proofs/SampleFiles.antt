@@ -24,16 +24,23 @@ use Rattle.base_format.specs.Verdict.{verdict, anyDataVerdict}
 
 -- ── the sections ──
 
--- a file of n octets in all: section 0; section 1, of 2026-06-14, 03:40:59; the sections of its cuts; section 8
-abbrev pub file : ℕ → List ℕ → List ℕ
-file n cuts =
+-- 0 and 1: how many octets the file has; section 1's length and month, of 2026, the 14th, 03:40:59
+abbrev pub begin : ℕ → ℕ → ℕ → List ℕ
+begin total length1 month =
     (71 ∷ 82 ∷ 73 ∷ 66 ∷ 255 ∷ 255 ∷ 0 ∷ 2 ∷ [])
-    ++ inOctets 8 n
-    ++ (0 ∷ 0 ∷ 0 ∷ 21 ∷ 1 ∷ 0 ∷ 34 ∷ 0 ∷ 0 ∷ 3 ∷ 1 ∷ 3 ∷ [])
+    ++ inOctets 8 total
+    ++ inOctets 4 length1
+    ++ (1 ∷ 0 ∷ 34 ∷ 0 ∷ 0 ∷ 3 ∷ 1 ∷ 3 ∷ [])
     ++ inOctets 2 2026
-    ++ (6 ∷ 14 ∷ 3 ∷ 40 ∷ 59 ∷ 0 ∷ 7 ∷ [])
-    ++ cuts
-    ++ (55 ∷ 55 ∷ 55 ∷ 55 ∷ [])
+    ++ (month ∷ 14 ∷ 3 ∷ 40 ∷ 59 ∷ 0 ∷ 7 ∷ [])
+
+-- 8
+abbrev pub eight : List ℕ
+eight = 55 ∷ 55 ∷ 55 ∷ 55 ∷ []
+
+-- a file of n octets in all, with the sections of its cuts
+abbrev pub file : ℕ → List ℕ → List ℕ
+file n cuts = begin n 21 6 ++ cuts ++ eight
 
 -- 3: a point count, Nb, Nr, the latitude's four octets as a number; octet 39
 abbrev pub three : ℕ → ℕ → ℕ → ℕ → ℕ → List ℕ
@@ -79,9 +86,15 @@ five points v m table =
     ++ (2 ∷ [])
     ++ table
 
--- 6 and 7: the data
+-- 6, with what may be too much; 7: the data
+abbrev pub six : List ℕ → List ℕ
+six more = inOctets 4 (6 + length more) ++ (6 ∷ 255 ∷ more)
+
+abbrev pub seven : List ℕ → List ℕ
+seven octets = inOctets 4 (5 + length octets) ++ (7 ∷ octets)
+
 abbrev pub rest : List ℕ → List ℕ
-rest octets = (0 ∷ 0 ∷ 0 ∷ 6 ∷ 6 ∷ 255 ∷ []) ++ inOctets 4 (5 + length octets) ++ (7 ∷ []) ++ octets
+rest octets = six [] ++ seven octets
 
 abbrev pub reflectivityTable : List ℕ
 reflectivityTable = tableOctets Reflectivity
@@ -109,6 +122,14 @@ document = likeDocument 10 0 10 252 reflectivityTable tenBins
 -- the data gives nine bins
 abbrev pub dataShort : List ℕ
 dataShort = likeDocument 10 0 10 252 reflectivityTable (0 ∷ 132 ∷ 130 ∷ 134 ∷ 1 ∷ 132 ∷ 0 ∷ [])
+
+-- section 1: 22 octets, and month 13
+abbrev pub longOne : List ℕ
+longOne = begin 42 22 13 ++ (0 ∷ []) ++ eight
+
+-- section 6: 7 octets
+abbrev pub longSix : List ℕ
+longSix = file 690 (three 10 5 2 35859722 0 ++ four 1 47695 130 2 ++ five 10 130 252 reflectivityTable ++ six (0 ∷ []) ++ seven tenBins)
 
 -- section 3: octet 39 is 1, and eleven points are said
 abbrev pub fieldAndPoints : List ℕ
@@ -158,6 +179,8 @@ pub record Verdicts : Type 0 where
   pub data-short : verdict dataShort ≡ refused (refuse Data 673)
   -- without check 8
   pub data-short-any : anyDataVerdict dataShort ≡ accepted (cutOf 37 78 146 673 ∷ [])
+  pub length-1 : verdict longOne ≡ refused (refuse SectionLength 16)
+  pub length-6 : verdict longSix ≡ refused (refuse SectionLength 667)
   pub field-first : verdict fieldAndPoints ≡ refused (refuse Field 37)
   pub points-first : verdict pointsAndTable ≡ refused (refuse Points 146)
   pub length-by-m : verdict lengthNotByM ≡ refused (refuse SectionLength 146)
@@ -173,6 +196,8 @@ verdicts =
       two-are = refl;
       data-short = refl;
       data-short-any = refl;
+      length-1 = refl;
+      length-6 = refl;
       field-first = refl;
       points-first = refl;
       length-by-m = refl;

@@ -23,7 +23,7 @@ use Rattle.sections.specs.Refusal.{refuse}
 use Rattle.sections.specs.Parts.{binsIn, raysIn, timeOf, gridAt}
 use Rattle.sections.specs.Verdict.{Verdict, refused}
 use Rattle.sections.specs.declared.Refusal.{Refusal}
-use Rattle.sections.specs.declared.Why.the-variants.{SectionLength, Field, Points, Data, Argument}
+use Rattle.sections.specs.declared.Why.the-variants.{SectionLength, Field, Points, Data, Argument, Room}
 use Rattle.base_format.specs.Fields.{siteAt, greatestAt}
 use Rattle.base_format.specs.Parts.{productOf, dataAt, productIn, greatestIn, levelsIn, levelIn}
 use Rattle.base_format.specs.Verdict.{verdict}
@@ -46,7 +46,7 @@ use Rattle.polar.specs.declared.CutAnswer.the-variants as C
 use Rattle.polar.specs.declared.Elevation.the-variants.{Missing, Hundredths}
 use Rattle.polar.specs.declared.StretchAnswer.{StretchAnswer}
 use Rattle.polar.specs.declared.StretchAnswer.the-variants as S
-use Rattle.demands.proofs.SampleFiles.{document, dataShort, fieldAndPoints, pointsAndTable, lengthNotByM, wind, twoCuts, otherParameter, otherSite, verdicts}
+use Rattle.demands.proofs.SampleFiles.{document, dataShort, longOne, longSix, fieldAndPoints, pointsAndTable, lengthNotByM, wind, twoCuts, otherParameter, otherSite, verdicts}
 
 -- ── the file's own refusals ──
 
@@ -58,11 +58,19 @@ open-by s q h r p = p .answer ∙ ap (onFile O.Refused (λ n c. O.File (summaryO
 pub data-at-section-7 : (r : Opened) → OpenPromise dataShort r → r ≡ O.Refused (refuse Data 673)
 data-at-section-7 = open-by dataShort _ (verdicts .data-short)
 
+-- 5 tested before 4, in section 1
+pub length-before-field : (r : Opened) → OpenPromise longOne r → r ≡ O.Refused (refuse SectionLength 16)
+length-before-field = open-by longOne _ (verdicts .length-1)
+
+-- the length of section 6 not tested
+pub length-of-6 : (r : Opened) → OpenPromise longSix r → r ≡ O.Refused (refuse SectionLength 667)
+length-of-6 = open-by longSix _ (verdicts .length-6)
+
 -- 6 tested before 5, in section 3
 pub field-before-points : (r : Opened) → OpenPromise fieldAndPoints r → r ≡ O.Refused (refuse Field 37)
 field-before-points = open-by fieldAndPoints _ (verdicts .field-first)
 
--- 7 tested before 6, in section 5
+-- 7 tested before 6, in section 5; 6 not tested there
 pub points-before-table : (r : Opened) → OpenPromise pointsAndTable r → r ≡ O.Refused (refuse Points 146)
 points-before-table = open-by pointsAndTable _ (verdicts .points-first)
 
@@ -133,19 +141,32 @@ ray-1 r out p =
           ∙ ap (λ (v : Verdict). front (rayIn document (cutAt 0 v) 1) lent) (verdicts .document-is),
     )
 
--- level 0 given the value 0: its mark is 0 and its place keeps what it held; the level for the value (19 is 5.60 dBZ)
-pub ray-values : (r : RayAnswer) (marks : List ℕ) (values : List ℤ) → ValuesPromise twoCuts 0 0 (replicate 3 9) (replicate 3 (pos 77)) r marks values
-    → (r ≡ R.Written) × (marks ≡ 1 ∷ 0 ∷ 9 ∷ []) × (values ≡ pos 560 ∷ pos 77 ∷ pos 77 ∷ [])
+-- level 0 given the value 0: its mark is 0 and its place keeps what it held; the level for the value (130 is 41.12 dBZ); a run that goes on over the ray's end stored whole
+pub ray-values : (r : RayAnswer) (marks : List ℕ) (values : List ℤ) → ValuesPromise document 0 0 (replicate 7 9) (replicate 7 (pos 77)) r marks values
+    → (r ≡ R.Written)
+    × (marks ≡ 0 ∷ 0 ∷ 1 ∷ 1 ∷ 1 ∷ 9 ∷ 9 ∷ [])
+    × (values ≡ pos 77 ∷ pos 77 ∷ pos 4112 ∷ pos 4112 ∷ pos 4112 ∷ pos 77 ∷ pos 77 ∷ [])
 unfolding inOctets tableOctets octetsOf signMagnitude tableOf valuesFrom published reflectivity levelCount rayAnswer marksAfter valuesAfter onCut cutAt rayOn rayIn binsFrom levelsIn greatestIn dataAt levels digitSum productIn productOf parameterAt marksOf valuesOf updated markOf heldOf readingOf binsIn raysIn lengthAt binsAt raysAt greatestAt field be
 ray-values r marks values p =
-    let w : r ≡ R.Written = p .answer ∙ ap (onCut R.Refused (rayOn twoCuts 0 3) 0) (verdicts .two-are) in (
+    let w : r ≡ R.Written = p .answer ∙ ap (onCut R.Refused (rayOn document 0 7) 0) (verdicts .document-is) in (
       w,
       p .marked
-          ∙ ap (λ (a : RayAnswer). marksAfter a twoCuts 0 0 (replicate 3 9)) w
-          ∙ ap (λ (v : Verdict). marksOf (productIn twoCuts (cutAt 0 v)) (rayIn twoCuts (cutAt 0 v) 0) (replicate 3 9)) (verdicts .two-are),
+          ∙ ap (λ (a : RayAnswer). marksAfter a document 0 0 (replicate 7 9)) w
+          ∙ ap (λ (v : Verdict). marksOf (productIn document (cutAt 0 v)) (rayIn document (cutAt 0 v) 0) (replicate 7 9)) (verdicts .document-is),
       p .valued
-          ∙ ap (λ (a : RayAnswer). valuesAfter a twoCuts 0 0 (replicate 3 (pos 77))) w
-          ∙ ap (λ (v : Verdict). valuesOf (productIn twoCuts (cutAt 0 v)) (rayIn twoCuts (cutAt 0 v) 0) (replicate 3 (pos 77))) (verdicts .two-are),
+          ∙ ap (λ (a : RayAnswer). valuesAfter a document 0 0 (replicate 7 (pos 77))) w
+          ∙ ap (λ (v : Verdict). valuesOf (productIn document (cutAt 0 v)) (rayIn document (cutAt 0 v) 0) (replicate 7 (pos 77))) (verdicts .document-is),
+    )
+
+-- the room of the values not tested: it is one short, and that of the marks is long enough
+pub values-room : (r : RayAnswer) (marks : List ℕ) (values : List ℤ) → ValuesPromise document 0 0 (replicate 5 9) (replicate 4 (pos 77)) r marks values
+    → (r ≡ R.Refused (refuse Room 0)) × (marks ≡ replicate 5 9) × (values ≡ replicate 4 (pos 77))
+unfolding inOctets tableOctets octetsOf signMagnitude tableOf valuesFrom published reflectivity levelCount rayAnswer marksAfter valuesAfter onCut rayOn binsIn raysIn binsAt raysAt field be
+values-room r marks values p =
+    let w : r ≡ R.Refused (refuse Room 0) = p .answer ∙ ap (onCut R.Refused (rayOn document 0 4) 0) (verdicts .document-is) in (
+      w,
+      p .marked ∙ ap (λ (a : RayAnswer). marksAfter a document 0 0 (replicate 5 9)) w,
+      p .valued ∙ ap (λ (a : RayAnswer). valuesAfter a document 0 0 (replicate 4 (pos 77))) w,
     )
 
 -- the bin of level 19: 5.60, by one division
@@ -181,12 +202,25 @@ pub bin-missing : (r : BinAnswer) → BinPromise twoCuts 0 0 1 r → r ≡ B.Mis
 unfolding inOctets tableOctets octetsOf signMagnitude tableOf valuesFrom published reflectivity levelCount binAnswer onCut binOn binOf levelIn levelsIn greatestIn dataAt levels digitSum productIn productOf parameterAt readingOf binsIn raysIn lengthAt binsAt raysAt greatestAt field be
 bin-missing r p = p .answer ∙ ap (onCut B.Refused (binOn twoCuts 0 1) 0) (verdicts .two-are)
 
+-- bin Nb taken
+pub bin-past-ray : (r : BinAnswer) → BinPromise document 0 0 5 r → r ≡ B.Refused (refuse Argument 0)
+unfolding inOctets tableOctets octetsOf signMagnitude tableOf valuesFrom published reflectivity levelCount binAnswer onCut binOn binsIn raysIn binsAt raysAt field be
+bin-past-ray r p = p .answer ∙ ap (onCut B.Refused (binOn document 0 5) 0) (verdicts .document-is)
+
 -- ── stretches ──
 
 -- 11 tested before 10: a threshold past its range, and no room
 pub threshold-before-room : (r : StretchAnswer) (words : List ℕ) → StretchesPromise document 0 (pos 32768) 0 0 [] r words → r ≡ S.Refused (refuse Argument 0)
 unfolding inOctets tableOctets octetsOf signMagnitude tableOf valuesFrom published reflectivity levelCount stretchAnswer onCut stretchesOn rightT rightPoint binsIn raysIn binsAt raysAt field be
 threshold-before-room r words p = p .answer ∙ ap (onCut S.Refused (stretchesOn document (pos 32768) 0 0 0) 0) (verdicts .document-is)
+
+-- a point outside the grid taken: the ray has bins 0 to 4
+pub point-outside : (r : StretchAnswer) (words : List ℕ) → StretchesPromise document 0 house 0 5 (replicate 4 99) r words
+    → (r ≡ S.Refused (refuse Argument 0)) × (words ≡ replicate 4 99)
+unfolding inOctets tableOctets octetsOf signMagnitude tableOf valuesFrom published reflectivity levelCount stretchAnswer wordsAfter onCut stretchesOn rightT rightPoint binsIn raysIn binsAt raysAt field be
+point-outside r words p =
+    let w : r ≡ S.Refused (refuse Argument 0) = p .answer ∙ ap (onCut S.Refused (stretchesOn document house 0 5 4) 0) (verdicts .document-is) in
+    (w, p .after ∙ ap (λ (a : StretchAnswer). wordsAfter a document 0 house 0 5 (replicate 4 99)) w)
 
 -- a value just at T called under; another house threshold (40.00 m/s is at 4000, and -40.00 under it); no data called under; a word past the entries changed
 pub wind-list : (r : StretchAnswer) (words : List ℕ) → StretchesPromise wind 0 house 0 0 (replicate 18 99) r words

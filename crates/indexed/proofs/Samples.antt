@@ -3,28 +3,31 @@ use Prim.Native.Nat.{ℕ}
 use mathlib.Core.Path.{_≡_, refl, _∙_, ap}
 use mathlib.Core.Bool.{true, false}
 use mathlib.Core.List.{List, [], _∷_}
+use lib.IntN.{ℤ, pos}
 use lib.ListN.{replicate}
 use Rattle.octets.specs.Octets.{be, inOctets}
 use Rattle.rules.specs.Rules.{field}
-use Rattle.rules.specs.Fields.{lengthAt, binsAt, raysAt}
-use Rattle.lent.specs.Lent.{front}
+use Rattle.rules.specs.Fields.{lengthAt, binsAt, raysAt, parameterAt}
+use Rattle.lent.specs.Lent.{front, updated}
 use Rattle.runs.specs.Run.{levels, digitSum}
 use Rattle.index.specs.declared.RayRecord.{RayRecord}
 use Rattle.index.specs.Index.{usable, fromRecord, recordOf, records}
 use Rattle.values.specs.Published.{reflectivity, published, levelCount, valuesFrom, tableOf}
 use Rattle.values.specs.Table.{signMagnitude, octetsOf, tableOctets}
+use Rattle.values.specs.Reading.{readingOf, markOf, heldOf}
+use Rattle.values.specs.Ray.{marksOf, valuesOf}
 use Rattle.sections.specs.Refusal.{refuse}
 use Rattle.sections.specs.Parts.{binsIn, raysIn}
 use Rattle.sections.specs.Verdict.{Verdict}
 use Rattle.sections.specs.declared.Why.the-variants.{Room, Record}
 use Rattle.base_format.specs.Fields.{greatestAt}
-use Rattle.base_format.specs.Parts.{dataAt, greatestIn}
+use Rattle.base_format.specs.Parts.{productOf, dataAt, productIn, greatestIn}
 use Rattle.cuts.specs.Records.{recordsIn, usableIn, rayFrom}
 use Rattle.calls.specs.Cuts.{onCut, cutAt}
 use Rattle.calls.specs.declared.RayAnswer.{RayAnswer}
 use Rattle.calls.specs.declared.RayAnswer.the-variants.{Written, Refused}
-use Rattle.records.specs.Records.{buildOn, buildAnswer, rowAfter, fromOn, fromAnswer, levelsFrom}
-use Rattle.records.specs.Promises.{BuildPromise, LevelsFromPromise}
+use Rattle.records.specs.Records.{buildOn, buildAnswer, rowAfter, fromOn, fromAnswer, levelsFrom, marksFrom, valuesFrom as numbersFrom}
+use Rattle.records.specs.Promises.{BuildPromise, LevelsFromPromise, ValuesFromPromise}
 use Rattle.demands.proofs.SampleFiles.{document, dataShort, verdicts}
 
 abbrev sample : List ℕ
@@ -95,6 +98,22 @@ eight-not-checked r out p =
     let w : r ≡ Written = p .answer ∙ ap (onCut Refused (fromOn dataShort 0 (at 0 0) 6) 0) (verdicts .data-short-any) in (
       w,
       p .after ∙ ap (λ (x : RayAnswer). levelsFrom x dataShort 0 (at 0 0) lent) w ∙ ap (λ (v : Verdict). front (rayFrom dataShort (cutAt 0 v) (at 0 0)) lent) (verdicts .data-short-any),
+    )
+
+-- the same of the values, and a run that goes on over the ray's end stored whole
+pub values-eight-not-checked : (r : RayAnswer) (marks : List ℕ) (values : List ℤ) → ValuesFromPromise dataShort 0 0 (at 0 0) (replicate 6 9) (replicate 6 (pos 77)) r marks values
+    → (r ≡ Written) × (marks ≡ 0 ∷ 0 ∷ 1 ∷ 1 ∷ 1 ∷ 9 ∷ []) × (values ≡ pos 77 ∷ pos 77 ∷ pos 4112 ∷ pos 4112 ∷ pos 4112 ∷ pos 77 ∷ [])
+unfolding inOctets tableOctets octetsOf signMagnitude tableOf valuesFrom published reflectivity levelCount fromAnswer fromOn marksFrom numbersFrom onCut cutAt usableIn usable rayFrom productIn productOf parameterAt marksOf valuesOf updated markOf heldOf readingOf greatestIn dataAt levels digitSum raysIn binsIn lengthAt raysAt binsAt greatestAt field be
+values-eight-not-checked r marks values p =
+    let numbers : List ℤ = replicate 6 (pos 77) in
+    let w : r ≡ Written = p .answer ∙ ap (onCut Refused (fromOn dataShort 0 (at 0 0) 6) 0) (verdicts .data-short-any) in (
+      w,
+      p .marked
+          ∙ ap (λ (x : RayAnswer). marksFrom x dataShort 0 (at 0 0) (replicate 6 9)) w
+          ∙ ap (λ (v : Verdict). marksOf (productIn dataShort (cutAt 0 v)) (rayFrom dataShort (cutAt 0 v) (at 0 0)) (replicate 6 9)) (verdicts .data-short-any),
+      p .valued
+          ∙ ap (λ (x : RayAnswer). numbersFrom x dataShort 0 (at 0 0) numbers) w
+          ∙ ap (λ (v : Verdict). valuesOf (productIn dataShort (cutAt 0 v)) (rayFrom dataShort (cutAt 0 v) (at 0 0)) numbers) (verdicts .data-short-any),
     )
 
 -- 13 at a wrong place: from the record of ray 1 that data ends early, and the place is section 7's start
