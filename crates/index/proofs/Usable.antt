@@ -42,21 +42,17 @@ module _ (v nb : ℕ) (s : List ℕ) (b : ℕ) where
   abbrev here : RayRecord
   here = record { offset = 0; before = b }
 
-  pub longer-none : length s ≡ 0 → false ≡ longerRun v s b
+  pub longer-none : length s ≤ 0 → false ≡ longerRun v s b
   unfolding longerRun
-  longer-none h = simp (le-ltb 0 (length s) (omega arith))
-
-  pub longer-above : 0 < length s → v < getD s 0 0 → false ≡ longerRun v s b
-  unfolding longerRun
-  longer-above i h = simp (lt-ltb 0 (length s) i, lt-leb (getD s 0 0) v h)
+  longer-none h = simp (le-ltb 0 (length s) h)
 
   -- by the run, cut off past so many bins
-  pub longer-cut : 0 < length s → getD s 0 0 ≤ v → (n : ℕ) → n ≡ min (runLen v s 0) (b + 1) → ltb b n ≡ longerRun v s b
+  pub longer-cut : 0 < length s → (level n : ℕ) → level ≡ getD s 0 0 → n ≡ min (runLen v s 0) (b + 1) → leb level v && ltb b n ≡ longerRun v s b
   unfolding longerRun
-  longer-cut i l n e =
+  longer-cut i level n is e =
       by-order (runLen v s 0) b
-      (λ h. le-ltb b n (omega arith) ∙ sym (simp (lt-ltb 0 (length s) i, le-leb (getD s 0 0) v l, le-ltb b (runLen v s 0) h)))
-      (λ h. lt-ltb b n (omega arith) ∙ sym (simp (lt-ltb 0 (length s) i, le-leb (getD s 0 0) v l, lt-ltb b (runLen v s 0) h)))
+      (λ h. ap (λ (x : ℕ). leb x v && ltb b n) is ∙ rw (lt-ltb 0 (length s) i, le-ltb b n (omega arith), le-ltb b (runLen v s 0) h))
+      (λ h. ap (λ (x : ℕ). leb x v && ltb b n) is ∙ rw (lt-ltb 0 (length s) i, lt-ltb b n (omega arith), lt-ltb b (runLen v s 0) h))
 
   longer-there : longerRun v s b ≡ true → (0 < length s) × (getD s 0 0 ≤ v) × (b < runLen v s 0)
   unfolding longerRun

@@ -57,18 +57,12 @@ fn longer(octets: &[u8], v: u8, before: usize) -> bool
     requires { ⌜ (v ≤ 253) × (before ≤ 4294967295) ⌝ }
     ensures { λ r. ⌜ r ≡ longerRun v (now (octets .entry)) before ⌝ }
 {
-    if octets.len() == 0 {
-        return false;
-    }
-    if v < octets[0] {
-        return false;
-    }
     match runs::run_upto(octets, v, 0, before + 1) {
         Step::Run {
-            level: _,
+            level,
             len,
             next: _,
-        } => before < len,
+        } => (level <= v) & (before < len),
         Step::End => false,
     }
 }
