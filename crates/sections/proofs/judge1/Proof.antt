@@ -1,12 +1,10 @@
 -- The checks as a chain of `check` are the first that fails.
-use Rattle.rules.specs.Fields.{lengthAt}
 use borrow.Author.Needs.{needs}
 use Rattle.sections.proofs.judge1.Statement.{statement}
 use Rattle.sections.proofs.judge1.Tie as tie
 
 returns : tie.Need-returns
-unfolding lengthAt
-returns c = cc
+returns c = rw (c .check2 .ensures, c .before .check .ensures, c .before .before .accepted .ensures, c .before .before .before .fields1 .ensures, c .before .before .before .before .length-at .ensures)
 
 pub judge1-spec : {M : Type 1} → statement M
 judge1-spec =
