@@ -1,13 +1,10 @@
 -- The checks as a chain of `check` are the first that fails.
-use Rattle.rules.specs.Fields.{lengthAt}
-use Rattle.base_format.specs.Fields.{greatestAt}
 use borrow.Author.Needs.{needs}
 use Rattle.base_format.proofs.judge_any7.Statement.{statement}
 use Rattle.base_format.proofs.judge_any7.Tie as tie
 
 returns : tie.Need-returns
-unfolding lengthAt greatestAt
-returns c = cc
+returns c = rw (c .check2 .ensures, c .before .check .ensures, c .before .before .accepted .ensures, c .before .before .before .greatest-at .ensures, c .before .before .before .before .length-at .ensures)
 
 pub judge-any7-spec : {M : Type 1} → statement M
 judge-any7-spec =

@@ -1,7 +1,7 @@
 -- The flags and Nr are as read, and the lists' length fits whatever they are.
 use native.Mathlib.Omega.{arith}
 use Prim.Native.Nat.{_+_, _*_}
-use Rattle.rules.specs.Fields.{raysAt}
+use mathlib.Core.Path.{_∙_}
 use Rattle.dual_format.specs.Fields.{withLists}
 use Rattle.dual_format.proofs.Products.{lists-small}
 use borrow.Author.Needs.{needs}
@@ -15,8 +15,16 @@ add-result : tie.Need-add-result
 add-result c = record { fits = let s = lists-small (2 * (c .before .before .before .before .before .wide8 .result + c .before .before .before .wide82 .result)) (c .before .wide .result) (omega arith) (omega arith) in omega arith }
 
 returns : tie.Need-returns
-unfolding withLists raysAt
-returns c = cc
+unfolding withLists
+returns c =
+    let rays = c .before in
+    let second = rays .before .before in
+    let first = second .before .before in
+    let n = c .wide83 .ensures in
+    let a = first .wide8 .ensures ∙ first .before .field8 .ensures in
+    let b = second .wide82 .ensures ∙ second .before .field82 .ensures in
+    let r = rays .wide .ensures ∙ rays .before .rays-at .ensures in
+    λ i. n i + 2 * (a i + b i) * r i
 
 pub with-lists-spec : {M : Type 1} → statement M
 with-lists-spec =
