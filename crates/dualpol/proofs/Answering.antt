@@ -9,7 +9,7 @@ use Rattle.scaled.specs.declared.Cell.{Cell}
 use Rattle.scaled.specs.declared.Cell.the-variants as L
 use Rattle.sections.specs.Parts.{binsIn, raysIn}
 use Rattle.sections.specs.declared.Cut.{Cut}
-use Rattle.dual_format.specs.Parts.{referenceIn, binaryIn, decimalIn, cellIn, toldIn}
+use Rattle.dual_format.specs.Parts.{referenceIn, binaryScaleIn, decimalScaleIn, cellIn, toldIn}
 use Rattle.sections.specs.Refusal.{refuse}
 use Rattle.sections.specs.declared.Why.the-variants.{Argument}
 use Rattle.dualpol.specs.Answers.{binOf, binOn, RightIn}
@@ -35,7 +35,7 @@ module _ (s : List ℕ) (c : Cut) (ray bin : ℕ) where
   bin-is h k = rw (lt-ltb ray (raysIn s c) h, lt-ltb bin (binsIn s c) k)
 
   -- and a cell that tells the right number is answered by it
-  pub right-is : (x : Cell) → RightCell x (referenceIn s c) (cellIn s c ray bin) (binaryIn s c) (decimalIn s c) → RightIn s ray bin c (binOf x)
+  pub right-is : (x : Cell) → RightCell x (referenceIn s c) (cellIn s c ray bin) (binaryScaleIn s c) (decimalScaleIn s c) → RightIn s ray bin c (binOf x)
   unfolding binOf
   right-is L.Missing h = tt
   right-is (L.Value y) h = h

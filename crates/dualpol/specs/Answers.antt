@@ -11,7 +11,7 @@ use Rattle.scaled.specs.declared.Cell.the-variants as L
 use Rattle.sections.specs.Parts.{binsIn, raysIn, timeOf, gridAt}
 use Rattle.sections.specs.declared.Cut.{Cut}
 use Rattle.dual_format.specs.Fields.{siteAt}
-use Rattle.dual_format.specs.Parts.{referenceIn, binaryIn, decimalIn, cellIn, toldIn}
+use Rattle.dual_format.specs.Parts.{referenceIn, binaryScaleIn, decimalScaleIn, cellIn, toldIn}
 use Rattle.dual_format.specs.Verdict.{verdict}
 use Rattle.calls.specs.Cuts.{onFile, onCut, cutAt}
 use Rattle.sections.specs.Refusal.{refuse}
@@ -58,7 +58,7 @@ binAnswer s i ray bin = onCut B.Refused (binOn s ray bin) i (verdict s)
 -- a value is within |Y| / 2^51 of the exact Y, and zero where Y is 0
 abbrev pub RightIn : List ℕ → ℕ → ℕ → Cut → BinAnswer → Type 0
 RightIn s ray bin c B.Missing = Unit {0}
-RightIn s ray bin c (B.Value y) = Right y (referenceIn s c) (cellIn s c ray bin) (binaryIn s c) (decimalIn s c)
+RightIn s ray bin c (B.Value y) = Right y (referenceIn s c) (cellIn s c ray bin) (binaryScaleIn s c) (decimalScaleIn s c)
 RightIn s ray bin c (B.Refused q) = Unit {0}
 
 pub record BinPromise (s : List ℕ) (i ray bin : ℕ) (r : BinAnswer) : Type 0 where

@@ -5,5 +5,5 @@ fn main() {
     let mut words = [0u32; 32768];
     let mut text = [0u8; 32768];
     let n = io::read_full(libc::STDIN_FILENO, &mut file);
-    show::show(libc::STDOUT_FILENO, &file[..n], &mut words, &mut text);
+    pages::write_list(libc::STDOUT_FILENO, &file[..n], &mut words, &mut text);
 }

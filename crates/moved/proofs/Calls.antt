@@ -37,8 +37,8 @@ use Rattle.sections.specs.Refusal.{refuse}
 use Rattle.sections.specs.declared.Why.the-variants.{Argument, Room}
 use Rattle.calls.proofs.ByVerdict.{cut-accepted}
 use Rattle.files.specs.File.{Parts, partsAt}
-use Rattle.moved.specs.Told.{productBy, levelsBy, stretchesBy}
-use Rattle.moved.proofs.Told.{Told, told-at}
+use Rattle.moved.specs.ByOctets.{productBy, levelsBy, stretchesBy}
+use Rattle.moved.proofs.ByOctets.{ByOctets, by-octets}
 
 -- cut i of one file and cut j of another: every call answers the same
 pub record SameCalls (s : List ℕ) (i : ℕ) (t : List ℕ) (j : ℕ) : Type 0 where
@@ -52,7 +52,7 @@ pub record SameCalls (s : List ℕ) (i : ℕ) (t : List ℕ) (j : ℕ) : Type 0 
   pub words : (a : StretchAnswer) (x : ℤ) (ray bin : ℕ) (out : List ℕ) → wordsAfter a s i x ray bin out ≡ wordsAfter a t j x ray bin out
 
 -- two cuts of which all is said alike
-module _ (s t : List ℕ) (c d : Cut) (p q : Parts) (m : Told s c p) (n : Told t d q) (e : p ≡ q) where
+module _ (s t : List ℕ) (c d : Cut) (p q : Parts) (m : ByOctets s c p) (n : ByOctets t d q) (e : p ≡ q) where
   bins : binsIn s c ≡ binsIn t d
   bins = m .bins ∙ ap (λ (x : Parts). binsAt (x .three) 0) e ∙ sym (n .bins)
 
@@ -73,9 +73,9 @@ module _ (s t : List ℕ) (c d : Cut) (p q : Parts) (m : Told s c p) (n : Told t
   info =
       let grid = m .grid ∙ ap (λ (x : Parts). gridAt (x .three) 0) e ∙ sym (n .grid) in
       let azimuth = m .azimuth ∙ ap (λ (x : Parts). field (x .three) 0 40 2) e ∙ sym (n .azimuth) in
-      let octet = m .octet38 ∙ ap (λ (x : Parts). field (x .four) 0 38 1) e ∙ sym (n .octet38) in
+      let mode = m .mode ∙ ap (λ (x : Parts). field (x .four) 0 38 1) e ∙ sym (n .mode) in
       let up = m .elevation ∙ ap (λ (x : Parts). field (x .four) 0 42 2) e ∙ sym (n .elevation) in
-      (λ i. record { grid = grid i; «start_azimuth» = azimuth i; octet38 = octet i; elevation = elevationOf (up i) })
+      (λ i. record { grid = grid i; «start_azimuth» = azimuth i; mode = mode i; elevation = elevationOf (up i) })
 
   ray-in : (ray : ℕ) → rayIn s c ray ≡ rayIn t d ray
   unfolding rayIn binsFrom
@@ -115,8 +115,8 @@ same-calls s t cs ds a b i j lt lu e =
     let d = getD ds j noCut in
     let p = partsAt s c in
     let q = partsAt t d in
-    let m = told-at s cs a i lt in
-    let n = told-at t ds b j lu in
+    let m = by-octets s cs a i lt in
+    let n = by-octets t ds b j lu in
     let x = cut-is s cs a i lt in
     let y = cut-is t ds b j lu in
     let product-of : productIn s (cutIn s i) ≡ productIn t (cutIn t j) = ap (productIn s) x ∙ product s t c d p q m n e ∙ sym (ap (productIn t) y) in

@@ -50,7 +50,7 @@ pub enum Elevation {
 pub struct CutInfo {
     pub grid: Grid,
     pub start_azimuth: u16,
-    pub octet38: u8,
+    pub mode: u8,
     pub elevation: Elevation,
 }
 
@@ -111,12 +111,12 @@ fn info_of(file: &[u8], c: Cut) -> CutInfo
     let section4 = c.section4;
     let grid = sections::grid_at(file, section3);
     let start_azimuth = rules::field16(file, section3, 40);
-    let octet38 = rules::field8(file, section4, 38);
+    let mode = rules::field8(file, section4, 38);
     let elevation = elevation_of(rules::field16(file, section4, 42));
     CutInfo {
         grid,
         start_azimuth,
-        octet38,
+        mode,
         elevation,
     }
 }

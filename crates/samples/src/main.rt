@@ -17,7 +17,7 @@ fn sample(i: usize, words: &mut [u32; 32768], text: &mut [u8; 32768]) {
     let mut file = [0u8; 65537];
     let n = io::read_full(fd, &mut file);
     libc::close(fd);
-    show::show(STDOUT_FILENO, &file[..n], words, text);
+    pages::write_list(STDOUT_FILENO, &file[..n], words, text);
 }
 
 fn main() {

@@ -117,8 +117,8 @@ pub fn open(file: &[u8], answer: &mut [u64; 9]) -> u64 {
     unsafe { polar_open(file.as_ptr(), file.len(), answer) }
 }
 
-/// Answer: Nb, Nr, latitude, longitude, Dx, Dstart, start azimuth, octet 38, whether the elevation is known, and the
-/// elevation constant (unchanged where it is missing).
+/// Answer: Nb, Nr, latitude, longitude, Dx, Dstart, start azimuth, mode of operation, whether the elevation is known,
+/// and the elevation constant (unchanged where it is missing).
 #[inline]
 pub fn cut(file: &[u8], cut: usize, answer: &mut [i64; 10]) -> u64 {
     unsafe { polar_cut(file.as_ptr(), file.len(), cut, answer) }

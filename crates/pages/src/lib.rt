@@ -6,7 +6,7 @@ ghost use Rattle.stretches.specs.Stretch.{perEntry};
 ghost use Rattle.listing.specs.Progress.{stepRoom};
 
 // `words` and `text` are room for the work: a listing's words, and a page.
-pub fn show(fd: i32, file: &[u8], words: &mut [u32], text: &mut [u8])
+pub fn write_list(fd: i32, file: &[u8], words: &mut [u32], text: &mut [u8])
     requires { ⌜ (perEntry ≤ length (now words)) × (stepRoom ≤ length (now text)) ⌝ }
 {
     let mut p = listing::start(file);

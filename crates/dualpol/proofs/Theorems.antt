@@ -24,7 +24,7 @@ use Rattle.sections.specs.declared.Why.the-variants.{Argument}
 use Rattle.dual_format.specs.Checks.{dualChecks}
 use Rattle.dual_format.specs.Accepted.{dualFormat, Accepted}
 use Rattle.dual_format.specs.Verdict.{verdict, RefusedBy}
-use Rattle.dual_format.specs.Parts.{referenceIn, binaryIn, decimalIn, widthIn, cellIn, toldIn}
+use Rattle.dual_format.specs.Parts.{referenceIn, binaryScaleIn, decimalScaleIn, widthIn, cellIn, toldIn}
 use Rattle.dual_format.proofs.Exact.{exact}
 use Rattle.calls.specs.Cuts.{cutAt}
 use Rattle.calls.specs.Reasons.{Reason, Asking, by-argument, by-room, by-record}
@@ -185,17 +185,17 @@ module _ (s : List ℕ) (cs : List Cut) (a : Accepted s cs) (i : ℕ) (lt : i < 
     answer-missing p = go (eqb (cellIn s cut ray bin) (2 ^ widthIn s cut - 1)) refl (bin-told B.Missing p)
       where
         go : (t : Bool) → eqb (cellIn s cut ray bin) (2 ^ widthIn s cut - 1) ≡ t
-            → B.Missing ≡ binOf (cond t L.Missing (L.Value (scaledValue (referenceIn s cut) (cellIn s cut ray bin) (binaryIn s cut) (decimalIn s cut))))
+            → B.Missing ≡ binOf (cond t L.Missing (L.Value (scaledValue (referenceIn s cut) (cellIn s cut ray bin) (binaryScaleIn s cut) (decimalScaleIn s cut))))
             → cellIn s cut ray bin ≡ 2 ^ widthIn s cut - 1
         go true e x = eqb-true _ _ e
         go false e x = let z : _≡_ {A = ℕ} 0 1 = cc in absurd (omega arith)
 
     -- any other cell is a number, and the right one: within |Y| / 2^51 of Y, and 0 where Y is 0
-    pub value-answer : (y : Float) → BinPromise s i ray bin (B.Value y) → Right y (referenceIn s cut) (cellIn s cut ray bin) (binaryIn s cut) (decimalIn s cut)
+    pub value-answer : (y : Float) → BinPromise s i ray bin (B.Value y) → Right y (referenceIn s cut) (cellIn s cut ray bin) (binaryScaleIn s cut) (decimalScaleIn s cut)
     value-answer y p = subst (λ (c : Cut). RightIn s ray bin c (B.Value y)) cut-is (p .near)
 
     pub number-answer : (r : BinAnswer) → BinPromise s i ray bin r → (cellIn s cut ray bin ≡ 2 ^ widthIn s cut - 1 → ⊥)
-        → r ≡ B.Value (scaledValue (referenceIn s cut) (cellIn s cut ray bin) (binaryIn s cut) (decimalIn s cut))
+        → r ≡ B.Value (scaledValue (referenceIn s cut) (cellIn s cut ray bin) (binaryScaleIn s cut) (decimalScaleIn s cut))
     unfolding toldIn cellOf binOf
     number-answer r p other = bin-told r p ∙ rw (ne-eqb _ _ other)
 
