@@ -19,10 +19,13 @@ ghost use Rattle.lines.specs.Rooms.{lineRoom};
 ghost use Rattle.listing.specs.Listing.{headOf, textOf};
 ghost use Rattle.listing.specs.Progress.{stepRoom, cutBegun, textFrom, partText, finished, rank, AtCut, Listed, InWords, Sound, ToCome, StepTo, Paged};
 
+// How many octets a file may have that is listed.
+pub const LARGEST: usize = 65536;
+
 // How many lines of entries a step writes at most, and how much room it asks.
 const LINES: usize = 256;
 
-const ROOM: usize = 20992;
+const ROOM: usize = LINES * lines::ENTRY_ROOM;
 
 // Part of a cut: the cut, the point from which its entries are to come, and how many entries came before.
 pub struct CutPart {
@@ -93,7 +96,7 @@ pub fn start(file: &[u8]) -> Progress
     ensures { λ r. ⌜ textFrom (now (file .entry)) r ≡ textOf (now (file .entry)) ⌝ }
     ensures { λ r. ⌜ ((ws : List ℕ) → Sound (now (file .entry)) ws r) ⌝ }
 {
-    if 65536 < file.len() {
+    if LARGEST < file.len() {
         return Progress::Refused(Refusal {
             why: Why::FileSize,
             place: 0,
