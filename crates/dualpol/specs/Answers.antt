@@ -2,7 +2,7 @@
 use Prim.Native.Nat.{ℕ}
 use mathlib.Core.Path.{_≡_}
 use mathlib.Core.List.{List}
-use mathlib.Core.Bool.{cond, _&&_}
+use mathlib.Core.Bool.{true, _&&_}
 use lib.Dec.{ltb}
 use Rattle.rules.specs.Fields.{parameterAt}
 use Rattle.scaled.specs.Scaled.{Right}
@@ -13,9 +13,7 @@ use Rattle.sections.specs.declared.Cut.{Cut}
 use Rattle.dual_format.specs.Fields.{siteAt}
 use Rattle.dual_format.specs.Parts.{referenceIn, binaryScaleIn, decimalScaleIn, cellIn, toldIn}
 use Rattle.dual_format.specs.Verdict.{verdict}
-use Rattle.calls.specs.Cuts.{onFile, onCut, cutAt}
-use Rattle.sections.specs.Refusal.{refuse}
-use Rattle.sections.specs.declared.Why.the-variants.{Argument}
+use Rattle.calls.specs.Cuts.{onFile, onCut, judged, cutAt}
 use Rattle.calls.specs.declared.BinAnswer.{BinAnswer}
 use Rattle.calls.specs.declared.BinAnswer.the-variants as B
 use Rattle.dualpol.specs.declared.DualSummary.{DualSummary}
@@ -50,7 +48,7 @@ binOf L.Missing = B.Missing
 binOf (L.Value x) = B.Value x
 
 unfoldable pub binOn : List ℕ → ℕ → ℕ → Cut → BinAnswer
-binOn s ray bin c = cond (ltb ray (raysIn s c) && ltb bin (binsIn s c)) (binOf (toldIn s c ray bin)) (B.Refused (refuse Argument 0))
+binOn s ray bin c = judged B.Refused c (ltb ray (raysIn s c) && ltb bin (binsIn s c)) true true (binOf (toldIn s c ray bin))
 
 unfoldable pub binAnswer : List ℕ → ℕ → ℕ → ℕ → BinAnswer
 binAnswer s i ray bin = onCut B.Refused (binOn s ray bin) i (verdict s)

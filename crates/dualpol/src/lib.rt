@@ -6,9 +6,9 @@ use calls::Sought;
 use scaled::Cell;
 use sections::Cut;
 use sections::Grid;
+use sections::Judged;
 use sections::Refusal;
 use sections::Time;
-use sections::Why;
 use walks::Walked;
 ghost use mathlib.Core.Path.{_≡_};
 ghost use mathlib.Core.Logic.{_⊎_};
@@ -123,19 +123,9 @@ fn bin_value_on(file: &[u8], c: Cut, ray: usize, bin: usize) -> BinAnswer
     ensures exact { λ r. ⌜ r ≡ binOn (now (file .entry)) ray bin c ⌝ }
     ensures near { λ r. ⌜ RightIn (now (file .entry)) ray bin c r ⌝ }
 {
-    let nr = sections::rays_in(file, c);
-    let nb = sections::bins_in(file, c);
-    if nr <= ray {
-        return BinAnswer::Refused(Refusal {
-            why: Why::Argument,
-            place: 0,
-        });
-    }
-    if nb <= bin {
-        return BinAnswer::Refused(Refusal {
-            why: Why::Argument,
-            place: 0,
-        });
+    let judged = calls::judge_bin(file, c, ray, bin);
+    if let Judged::Refused(refusal) = judged {
+        return BinAnswer::Refused(refusal);
     }
     bin_of(told_in(file, c, ray, bin))
 }

@@ -10,7 +10,7 @@ use walks::Walked;
 ghost use mathlib.Core.Path.{_≡_};
 ghost use mathlib.Core.Bool.{false};
 ghost use mathlib.Core.List.{List};
-ghost use Prim.Native.Nat.{ℕ, _+_, _≤_, _<_, min};
+ghost use Prim.Native.Nat.{ℕ, _+_, _≤_, _<_};
 ghost use lib.ListN.{length};
 ghost use Rattle.sections.specs.Refusal.{numberOf};
 ghost use Rattle.stretches.specs.Stretch.{perEntry};
@@ -69,12 +69,6 @@ fn number_of(refusal: Refusal) -> usize
 {
     let why = refusal.why;
     sections::number_of(why) as usize
-}
-
-fn least(a: usize, b: usize) -> usize
-    ensures { λ r. ⌜ r ≡ min a b ⌝ }
-{
-    if a < b { a } else { b }
 }
 
 // A cut from its beginning on.
@@ -191,7 +185,7 @@ fn put_more_lines(
     requires { ⌜ at + stepRoom ≤ length (now text) ⌝ }
     ensures { λ r. ⌜ StepTo (now (file .entry)) (now (words .entry)) (now (text .entry)) (Progress.ToWrite part l written) at (now (text .exit)) r ⌝ }
 {
-    let n = least(l.count - written, LINES);
+    let n = lent::least(l.count - written, LINES);
     let to = lines::put_entries(text, at, words, written, n);
     if written + n < l.count {
         return AfterStep {

@@ -1,9 +1,9 @@
 -- A cut of each of two accepted files, with the same octets: every call answers the same of both, and leaves the same in lent memory.
 use Prim.Native.Nat.{ℕ, _+_, _*_, _<_}
 use mathlib.Core.Path.{_≡_, sym, _∙_, ap}
-use mathlib.Core.List.{List, []}
-use mathlib.Core.Bool.{cond, _&&_}
-use lib.Dec.{ltb}
+use mathlib.Core.List.{List}
+use mathlib.Core.Bool.{true, _&&_}
+use lib.Dec.{ltb, leb}
 use lib.ListN.{length, getD, take, drop}
 use lib.IntN.{ℤ}
 use Rattle.rules.specs.Rules.{field}
@@ -23,7 +23,7 @@ use Rattle.base_format.proofs.Exact.{exact}
 use Rattle.stretches.specs.Stretch.{perEntry}
 use Rattle.stretches.specs.Call.{rightT, rightPoint, answerOf, outOf}
 use Rattle.cuts.specs.Bins.{binsFrom, rayIn, stretchesIn}
-use Rattle.calls.specs.Cuts.{onCut, cutAt, cutIn, ifWritten}
+use Rattle.calls.specs.Cuts.{onCut, judged, cutAt, cutIn, ifWritten}
 use Rattle.polar.specs.Opening.{elevationOf, infoOf, cutAnswer}
 use Rattle.polar.specs.Rays.{rayOn, rayAnswer, levelsAfter, marksAfter, valuesAfter, binOf, binOn, binAnswer}
 use Rattle.polar.specs.Stretching.{stretchesOn, stretchAnswer, ifListed, wordsAfter}
@@ -33,8 +33,6 @@ use Rattle.calls.specs.declared.RayAnswer.the-variants as R
 use Rattle.calls.specs.declared.BinAnswer.the-variants as B
 use Rattle.polar.specs.declared.StretchAnswer.{StretchAnswer}
 use Rattle.polar.specs.declared.StretchAnswer.the-variants as S
-use Rattle.sections.specs.Refusal.{refuse}
-use Rattle.sections.specs.declared.Why.the-variants.{Argument, Room}
 use Rattle.calls.proofs.ByVerdict.{cut-accepted}
 use Rattle.files.specs.File.{Parts, partsAt}
 use Rattle.moved.specs.ByOctets.{productBy, levelsBy, stretchesBy}
@@ -83,21 +81,17 @@ module _ (s t : List ℕ) (c d : Cut) (p q : Parts) (m : ByOctets s c p) (n : By
 
   ray-on : (ray room : ℕ) → rayOn s ray room c ≡ rayOn t ray room d
   unfolding rayOn
-  ray-on ray room = (λ i. cond (ltb ray (rays i)) (cond (ltb room (bins i)) (R.Refused (refuse Room 0)) R.Written) (R.Refused (refuse Argument 0)))
+  ray-on ray room = (λ i. judged R.Refused c (ltb ray (rays i)) (leb (bins i) room) true R.Written)
 
   bin-on : (ray bin : ℕ) → binOn s ray bin c ≡ binOn t ray bin d
   unfolding binOn levelIn
   bin-on ray bin =
-      (λ i.
-      cond (ltb ray (rays i) && ltb bin (bins i)) (binOf (readingOf (product i) (getD (levels i) (ray * bins i + bin) 0))) (B.Refused (refuse Argument 0)))
+      (λ i. judged B.Refused c (ltb ray (rays i) && ltb bin (bins i)) true true (binOf (readingOf (product i) (getD (levels i) (ray * bins i + bin) 0))))
 
   stretches-on : (x : ℤ) (ray bin room : ℕ) → stretchesOn s x ray bin room c ≡ stretchesOn t x ray bin room d
   unfolding stretchesOn
   stretches-on x ray bin room =
-      (λ i.
-      cond (rightT x && rightPoint (bins i) (rays i) ray bin)
-      (cond (ltb room perEntry) (S.Refused (refuse Room 0)) (S.Listed (answerOf (rays i) room (stretches x ray bin i))))
-      (S.Refused (refuse Argument 0)))
+      (λ i. judged S.Refused c (rightT x && rightPoint (bins i) (rays i) ray bin) (leb perEntry room) true (S.Listed (answerOf (rays i) room (stretches x ray bin i))))
 
 module _ (s : List ℕ) (cs : List Cut) (a : Accepted s cs) (i : ℕ) (lt : i < length cs) where
   cut-is : cutIn s i ≡ getD cs i noCut
