@@ -205,8 +205,8 @@ uint64_t polar_open(const uint8_t *file, size_t len, uint64_t answer[9]);
 /*
  * Cut: what sections 3 and 4 say of one cut.
  * answer (POLAR_CUT_*): Nb, bins on a ray; Nr, rays; latitude and longitude in 10^-6 degrees; Dx, the bins'
- * spacing, and Dstart, both in 10^-3 m; start azimuth in 10^-2 degrees; octet 38, the mode of operation (0, 1, 2, or
- * 255 missing); 1 where the elevation is known and 0 where it is missing; the elevation constant in 10^-2 degrees.
+ * spacing, and Dstart, both in 10^-3 m; start azimuth in 10^-2 degrees; mode of operation (0, 1, 2, or 255 missing);
+ * 1 where the elevation is known and 0 where it is missing; the elevation constant in 10^-2 degrees.
  * Where the elevation is missing its word is UNCHANGED: look at POLAR_CUT_ELEVATION_KNOWN first.
  * Refusal 10: cut.
  */

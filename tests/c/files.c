@@ -71,11 +71,14 @@ static void rays(void)
     CHECK(polar_ray_values(file, len, 0, 1, marks, 6, NULL, 0) == POLAR_ROOM);
 }
 
+/* the words of the whole list, of five entries */
+#define WHOLE (5 * POLAR_ENTRY_WORDS)
+
 static void stretches(void)
 {
     const uint32_t expected[] = {0, 0, 2, POLAR_MISSING, 0, 2, 3, POLAR_OVER,    1, 0, 1,
                                  POLAR_OVER, 1, 1, 3, POLAR_UNDER, 1, 4, 1, POLAR_MISSING};
-    uint32_t words[POLAR_ENTRY_WORDS], all[21];
+    uint32_t words[POLAR_ENTRY_WORDS], all[WHOLE + 1];
     uint64_t answer[3];
     size_t ray = 0, bin = 0, found = 0;
 
@@ -83,7 +86,7 @@ static void stretches(void)
     while (ray != 2 && found < 5) {
         CHECK(polar_house_stretches(file, len, 0, ray, bin, words, POLAR_ENTRY_WORDS, answer) == 0);
         CHECK(answer[POLAR_LIST_COUNT] == 1);
-        CHECK(memcmp(words, expected + 4 * found, sizeof words) == 0);
+        CHECK(memcmp(words, expected + POLAR_ENTRY_WORDS * found, sizeof words) == 0);
         found++;
         ray = (size_t)answer[POLAR_LIST_NEXT_RAY];
         bin = (size_t)answer[POLAR_LIST_NEXT_BIN];
@@ -91,16 +94,16 @@ static void stretches(void)
     CHECK(found == 5 && ray == 2 && bin == 0);
 
     /* whole */
-    all[20] = 77;
-    CHECK(polar_stretches(file, len, 0, POLAR_HOUSE_THRESHOLD, 0, 0, all, 21, answer) == 0);
-    CHECK(answer[0] == 5 && answer[1] == 2 && answer[2] == 0 && all[20] == 77);
+    all[WHOLE] = 77;
+    CHECK(polar_stretches(file, len, 0, POLAR_HOUSE_THRESHOLD, 0, 0, all, WHOLE + 1, answer) == 0);
+    CHECK(answer[0] == 5 && answer[1] == 2 && answer[2] == 0 && all[WHOLE] == 77);
     CHECK(memcmp(all, expected, sizeof expected) == 0);
-    CHECK(polar_stretches(file, len, 0, 32768, 0, 0, all, 21, answer) == POLAR_ARGUMENT);
+    CHECK(polar_stretches(file, len, 0, 32768, 0, 0, all, WHOLE + 1, answer) == POLAR_ARGUMENT);
     /* thresholds that fewer bits would hold as 4000 */
-    CHECK(polar_stretches(file, len, 0, INT64_C(4294967296) + 4000, 0, 0, all, 21, answer) == POLAR_ARGUMENT);
-    CHECK(polar_stretches(file, len, 0, INT64_C(65536) + 4000, 0, 0, all, 21, answer) == POLAR_ARGUMENT);
-    CHECK(polar_stretches(file, len, 0, INT64_MIN, 0, 0, all, 21, answer) == POLAR_ARGUMENT);
-    CHECK(polar_stretches(file, len, 0, 0, 0, 0, all, 3, answer) == POLAR_ROOM);
+    CHECK(polar_stretches(file, len, 0, INT64_C(4294967296) + 4000, 0, 0, all, WHOLE + 1, answer) == POLAR_ARGUMENT);
+    CHECK(polar_stretches(file, len, 0, INT64_C(65536) + 4000, 0, 0, all, WHOLE + 1, answer) == POLAR_ARGUMENT);
+    CHECK(polar_stretches(file, len, 0, INT64_MIN, 0, 0, all, WHOLE + 1, answer) == POLAR_ARGUMENT);
+    CHECK(polar_stretches(file, len, 0, 0, 0, 0, all, POLAR_ENTRY_WORDS - 1, answer) == POLAR_ROOM);
     CHECK(polar_stretches(file, len, 0, 0, 0, 0, NULL, 0, answer) == POLAR_ROOM);
     CHECK(answer[0] == 5 && answer[1] == 2 && answer[2] == 0 && memcmp(all, expected, sizeof expected) == 0);
 }

@@ -15,7 +15,7 @@ typedef struct {
     int64_t cut[POLAR_CUT_WORDS], dual_cut[POLAR_DUAL_CUT_WORDS];
     polar_ray_record records[2];
     double value;
-    uint32_t words[32];
+    uint32_t words[8 * POLAR_ENTRY_WORDS];
     int32_t values[8];
     uint8_t levels[8], octets[8], marks[8];
 } memory;
@@ -67,10 +67,10 @@ static void files(size_t size, uint64_t argument, uint64_t room)
     REFUSES(polar_ray_values_from(file, size, 0, 2, 0, 0, lent.marks, 8, lent.values, 8), argument);
     REFUSES(polar_ray_values_from(file, size, 0, 0, 0, 0, lent.marks, 4, lent.values, 8), room);
     REFUSES(polar_bin_value(file, size, 0, 0, 5, &lent.value, lent.bin), argument);
-    REFUSES(polar_stretches(file, size, 0, 32768, 0, 0, lent.words, 32, lent.list), argument);
-    REFUSES(polar_stretches(file, size, 0, 4000, 0, 0, lent.words, 3, lent.list), room);
-    REFUSES(polar_house_stretches(file, size, 0, 3, 0, lent.words, 32, lent.list), argument);
-    REFUSES(polar_house_stretches(file, size, 0, 0, 0, lent.words, 3, lent.list), room);
+    REFUSES(polar_stretches(file, size, 0, 32768, 0, 0, lent.words, 8 * POLAR_ENTRY_WORDS, lent.list), argument);
+    REFUSES(polar_stretches(file, size, 0, 4000, 0, 0, lent.words, POLAR_ENTRY_WORDS - 1, lent.list), room);
+    REFUSES(polar_house_stretches(file, size, 0, 3, 0, lent.words, 8 * POLAR_ENTRY_WORDS, lent.list), argument);
+    REFUSES(polar_house_stretches(file, size, 0, 0, 0, lent.words, POLAR_ENTRY_WORDS - 1, lent.list), room);
 }
 
 int main(int argc, char **argv)

@@ -23,7 +23,7 @@ typedef struct {
     int32_t values[8], values_from[8];
     polar_ray_record records[2];
     double value, dual_value;
-    uint32_t words[32], house_words[32];
+    uint32_t words[8 * POLAR_ENTRY_WORDS], house_words[8 * POLAR_ENTRY_WORDS];
 } answers;
 
 static void every_call(answers *a)
@@ -43,8 +43,8 @@ static void every_call(answers *a)
     *returned++ = polar_ray_values_from(file, len, 0, 1, a->records[1].offset, a->records[1].before, a->marks_from, 8,
                                         a->values_from, 8);
     *returned++ = polar_bin_value(file, len, 0, 1, 0, &a->value, a->bin);
-    *returned++ = polar_stretches(file, len, 0, 4000, 0, 0, a->words, 32, a->list);
-    *returned++ = polar_house_stretches(file, len, 0, 0, 0, a->house_words, 32, a->house);
+    *returned++ = polar_stretches(file, len, 0, 4000, 0, 0, a->words, 8 * POLAR_ENTRY_WORDS, a->list);
+    *returned++ = polar_house_stretches(file, len, 0, 0, 0, a->house_words, 8 * POLAR_ENTRY_WORDS, a->house);
     *returned++ = polar_dual_open(dual, dual_len, a->dual_opened);
     *returned++ = polar_dual_cut(dual, dual_len, 0, a->dual_cut);
     *returned++ = polar_dual_bin_value(dual, dual_len, 0, 0, 0, &a->dual_value, a->dual_bin);

@@ -23,7 +23,6 @@ use Rattle.calls.specs.Cuts.{onCut}
 use Rattle.polar.specs.Stretching.{stretchesOn, stretchAnswer, ifListed, wordsAfter}
 use Rattle.polar.specs.declared.StretchAnswer.{StretchAnswer}
 use Rattle.polar.specs.declared.StretchAnswer.the-variants.{Refused}
-use Rattle.polar.proofs.Answering.{list-wrong-t}
 use Rattle.c_words.specs.Arguments.{narrowV, narrowThreshold}
 
 -- ── V ──
@@ -73,7 +72,8 @@ narrow-fits t = go (ltZ t (negsuc 32766)) (ltZ (pos 32767) t) refl refl
 
 module _ (s : List ℕ) (i ray bin room : ℕ) (t : ℤ) (wrong : rightT t ≡ false) where
   on-wrong : (c : Cut) → stretchesOn s t ray bin room c ≡ Refused (refuse Argument 0)
-  on-wrong c = sym (list-wrong-t s c _ _ refl refl ray t bin room wrong)
+  unfolding stretchesOn
+  on-wrong c = rw wrong
 
   -- such a call refuses, by the file or by 10
   pub wrong-answer : (v : Verdict) → onCut Refused (stretchesOn s t ray bin room) i v ≡ onCut Refused (λ c. Refused (refuse Argument 0)) i v

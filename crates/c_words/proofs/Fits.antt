@@ -1,11 +1,11 @@
 -- What each call returns fits one word: the place of a refusal lies in the file, and a file that is longer than 8,388,608 octets is refused at place 0.
 use Prim.Native.Nat.{ℕ, _≤_, _<_}
-use mathlib.Core.Path.{_≡_, refl, sym}
+use mathlib.Core.Path.{_≡_, refl}
 use mathlib.Core.List.{List}
 use mathlib.Core.Bool.{Bool, true, false, cond, _&&_}
 use native.Mathlib.Omega.{arith}
 use borrow.Author.Tests.{ltb-true}
-use lib.Dec.{ltb}
+use lib.Dec.{ltb, leb}
 use lib.IntN.{ℤ}
 use lib.ListN.{length, getD}
 use Rattle.values.specs.Reading.{readingOf}
@@ -28,26 +28,23 @@ use Rattle.sections.proofs.Exact.{refused-only}
 use Rattle.sections.proofs.Inside.{OwnAt, refused-inside}
 use Rattle.base_format.specs.Parts.{productIn, levelIn}
 use Rattle.base_format.specs.Checks.{baseChecks, anyDataChecks}
-use Rattle.base_format.specs.Verdict.{verdict, anyDataVerdict}
 use Rattle.base_format.proofs.Says.{own-at, any-own-at}
 use Rattle.base_format.proofs.Exact.{any-exact}
 use Rattle.base_format.proofs.GoodCuts.{any-cut-of}
 use Rattle.dual_format.specs.Parts.{toldIn}
 use Rattle.dual_format.specs.Checks.{dualChecks}
-use Rattle.dual_format.specs.Verdict.{verdict as dualVerdict}
 use Rattle.dual_format.proofs.Says.{own-at as dual-own-at}
 use Rattle.cuts.specs.Bins.{stretchesIn}
 use Rattle.cuts.specs.Records.{usableIn}
-use Rattle.calls.specs.Cuts.{onFile, onCut}
+use Rattle.calls.proofs.Judging.{never}
+use Rattle.calls.specs.Cuts.{judged, onFile, onCut}
 use Rattle.calls.specs.declared.RayAnswer.the-variants as R
-use Rattle.calls.specs.declared.BinAnswer.{BinAnswer}
 use Rattle.calls.specs.declared.BinAnswer.the-variants as B
 use Rattle.polar.specs.Opening.{summaryOf, openAnswer, infoOf, cutAnswer}
 use Rattle.polar.specs.Rays.{rayOn, rayAnswer, binOf, binOn, binAnswer}
 use Rattle.polar.specs.Stretching.{stretchesOn, stretchAnswer}
 use Rattle.polar.specs.declared.Opened.the-variants as O
 use Rattle.polar.specs.declared.CutAnswer.the-variants as C
-use Rattle.polar.specs.declared.StretchAnswer.{StretchAnswer}
 use Rattle.polar.specs.declared.StretchAnswer.the-variants as S
 use Rattle.records.specs.Records.{buildOn, buildAnswer, fromOn, fromAnswer}
 use Rattle.dualpol.specs.Answers as D
@@ -94,6 +91,21 @@ module _ (own : FormatChecks) (own-at′ : OwnAt own) (s : List ℕ) where
         go (accepted cs) e = split cs e (ltb i (length cs)) refl
         go (refused r) e = bad-fits r e
 
+    -- 10, 11, 13 or an answer
+    on-judged : (c : Cut) (a b f : Bool) (x : A) → returned x ≡ 0 → (f ≡ false → c .section7 ≤ 8388608) → InWord (returned (judged bad c a b f x))
+    unfolding refuse
+    on-judged c true true true x e low = rw e (omega arith)
+    on-judged c true true false x e low = let h = low refl in rw (is (refuse Record (c .section7))) (in-word (refuse Record (c .section7)) (omega arith))
+    on-judged c true false f x e low = rw (is (refuse Room 0)) (omega arith)
+    on-judged c false b f x e low = rw (is (refuse Argument 0)) (omega arith)
+
+    pub judged-fits : (right roomy fits : Cut → Bool) (answer : Cut → A) (i : ℕ) → ((c : Cut) → returned (answer c) ≡ 0)
+        → ((cs : List Cut) → verdictBy own s ≡ accepted cs → i < length cs → fits (getD cs i noCut) ≡ false → getD cs i noCut .section7 ≤ 8388608)
+        → InWord (returned (onCut bad (λ c. judged bad c (right c) (roomy c) (fits c) (answer c)) i (verdictBy own s)))
+    judged-fits right roomy fits answer i none low =
+        cut-fits (λ c. judged bad c (right c) (roomy c) (fits c) (answer c)) i
+        (λ cs e lt. let c = getD cs i noCut in on-judged c (right c) (roomy c) (fits c) (answer c) (none c) (low cs e lt))
+
 -- ── of a file ──
 
 pub open-fits : (s : List ℕ) → InWord (openReturn (openAnswer s))
@@ -104,22 +116,11 @@ pub cut-info-fits : (s : List ℕ) (i : ℕ) → InWord (cutReturn (cutAnswer s 
 unfolding cutAnswer
 cut-info-fits s i = cut-fits baseChecks own-at s C.Refused cutReturn (λ r. refl) (λ c. C.Cut (infoOf s c)) i (λ cs e lt. omega arith)
 
--- 10, 11 or an answer
-ray-on : (a b : Bool) → InWord (rayReturn (cond a (cond b (R.Refused (refuse Room 0)) R.Written) (R.Refused (refuse Argument 0))))
-unfolding refuse
-ray-on true true = omega arith
-ray-on true false = omega arith
-ray-on false b = omega arith
-
 pub ray-fits : (s : List ℕ) (i ray room : ℕ) → InWord (rayReturn (rayAnswer s i ray room))
 unfolding rayAnswer rayOn
-ray-fits s i ray room = cut-fits baseChecks own-at s R.Refused rayReturn (λ r. refl) (rayOn s ray room) i (λ cs e lt.
-    let c = getD cs i noCut in ray-on (ltb ray (raysIn s c)) (ltb room (binsIn s c)))
-
-bin-on : (a : Bool) (x : BinAnswer) → binReturn x ≡ 0 → InWord (binReturn (cond a x (B.Refused (refuse Argument 0))))
-unfolding refuse
-bin-on true x e = rw e (omega arith)
-bin-on false x e = omega arith
+ray-fits s i ray room =
+    judged-fits baseChecks own-at s R.Refused rayReturn (λ r. refl) (λ c. ltb ray (raysIn s c)) (λ c. leb (binsIn s c) room) (λ c. true) (λ c. R.Written) i (λ c. refl)
+    (λ cs e lt no. absurd (never .0 no))
 
 reading-returned : (x : Reading) → binReturn (binOf x) ≡ 0
 unfolding binOf
@@ -128,51 +129,34 @@ reading-returned (G.Number z) = refl
 
 pub bin-fits : (s : List ℕ) (i ray bin : ℕ) → InWord (binReturn (binAnswer s i ray bin))
 unfolding binAnswer binOn
-bin-fits s i ray bin = cut-fits baseChecks own-at s B.Refused binReturn (λ r. refl) (binOn s ray bin) i (λ cs e lt.
-    let c = getD cs i noCut in bin-on (ltb ray (raysIn s c) && ltb bin (binsIn s c)) _ (reading-returned (readingOf (productIn s c) (levelIn s c ray bin))))
-
-stretches-on : (a b : Bool) (x : StretchAnswer) → stretchReturn x ≡ 0 → InWord (stretchReturn (cond a (cond b (S.Refused (refuse Room 0)) x) (S.Refused (refuse Argument 0))))
-unfolding refuse
-stretches-on true true x e = omega arith
-stretches-on true false x e = rw e (omega arith)
-stretches-on false b x e = omega arith
+bin-fits s i ray bin =
+    judged-fits baseChecks own-at s B.Refused binReturn (λ r. refl) (λ c. ltb ray (raysIn s c) && ltb bin (binsIn s c)) (λ c. true) (λ c. true) _ i
+    (λ c. reading-returned (readingOf (productIn s c) (levelIn s c ray bin))) (λ cs e lt no. absurd (never .0 no))
 
 pub stretches-fits : (s : List ℕ) (i : ℕ) (t : ℤ) (ray bin room : ℕ) → InWord (stretchReturn (stretchAnswer s i t ray bin room))
 unfolding stretchAnswer stretchesOn
 stretches-fits s i t ray bin room =
-    cut-fits baseChecks own-at s S.Refused stretchReturn (λ r. refl) (stretchesOn s t ray bin room) i (λ cs e lt.
-    let c = getD cs i noCut in
-    stretches-on (rightT t && rightPoint (binsIn s c) (raysIn s c) ray bin) (ltb room perEntry) (S.Listed (answerOf (raysIn s c) room (stretchesIn s c t ray bin))) refl)
+    judged-fits baseChecks own-at s S.Refused stretchReturn (λ r. refl) (λ c. rightT t && rightPoint (binsIn s c) (raysIn s c) ray bin) (λ c. leb perEntry room) (λ c. true)
+    (λ c. S.Listed (answerOf (raysIn s c) room (stretchesIn s c t ray bin))) i (λ c. refl) (λ cs e lt no. absurd (never .0 no))
 
 -- ── by a record ──
 
-build-on : (b : Bool) → InWord (rayReturn (cond b (R.Refused (refuse Room 0)) R.Written))
-unfolding refuse
-build-on true = omega arith
-build-on false = omega arith
-
 pub build-fits : (s : List ℕ) (i room : ℕ) → InWord (rayReturn (buildAnswer s i room))
 unfolding buildAnswer buildOn
-build-fits s i room = cut-fits baseChecks own-at s R.Refused rayReturn (λ r. refl) (buildOn s room) i (λ cs e lt. build-on (ltb room (raysIn s (getD cs i noCut))))
-
-from-on : (a b d : Bool) (at : ℕ) → at ≤ 8388608
-    → InWord (rayReturn (cond a (cond b (R.Refused (refuse Room 0)) (cond d R.Written (R.Refused (refuse Record at)))) (R.Refused (refuse Argument 0))))
-unfolding refuse
-from-on true true d at h = omega arith
-from-on true false true at h = omega arith
-from-on true false false at h = omega arith
-from-on false b d at h = omega arith
+build-fits s i room =
+    judged-fits baseChecks own-at s R.Refused rayReturn (λ r. refl) (λ c. true) (λ c. leb (raysIn s c) room) (λ c. true) (λ c. R.Written) i (λ c. refl)
+    (λ cs e lt no. absurd (never .0 no))
 
 -- section 7 of an accepted file's cut lies in the file
 pub from-fits : (s : List ℕ) (i ray : ℕ) (rec : RayRecord) (room : ℕ) → InWord (rayReturn (fromAnswer s i ray rec room))
 unfolding fromAnswer fromOn
 from-fits s i ray rec room =
-    cut-fits anyDataChecks any-own-at s R.Refused rayReturn (λ r. refl) (fromOn s ray rec room) i (λ cs e lt.
+    judged-fits anyDataChecks any-own-at s R.Refused rayReturn (λ r. refl) (λ c. ltb ray (raysIn s c)) (λ c. leb (binsIn s c) room) (λ c. usableIn s c rec) (λ c. R.Written) i (λ c. refl)
+    (λ cs e lt no.
     let file = any-exact .accepted-only s cs e in
     let inside = any-cut-of s cs file i lt .data-inside in
     let large = file .large in
-    let c = getD cs i noCut in
-    from-on (ltb ray (raysIn s c)) (ltb room (binsIn s c)) (usableIn s c rec) (c .section7) (omega arith))
+    omega arith)
 
 -- ── of a dual-polarisation file ──
 
@@ -191,5 +175,6 @@ cell-returned (L.Value x) = refl
 
 pub dual-bin-fits : (s : List ℕ) (i ray bin : ℕ) → InWord (binReturn (D.binAnswer s i ray bin))
 unfolding D.binAnswer D.binOn
-dual-bin-fits s i ray bin = cut-fits dualChecks dual-own-at s B.Refused binReturn (λ r. refl) (D.binOn s ray bin) i (λ cs e lt.
-    let c = getD cs i noCut in bin-on (ltb ray (raysIn s c) && ltb bin (binsIn s c)) _ (cell-returned (toldIn s c ray bin)))
+dual-bin-fits s i ray bin =
+    judged-fits dualChecks dual-own-at s B.Refused binReturn (λ r. refl) (λ c. ltb ray (raysIn s c) && ltb bin (binsIn s c)) (λ c. true) (λ c. true) _ i
+    (λ c. cell-returned (toldIn s c ray bin)) (λ cs e lt no. absurd (never .0 no))

@@ -68,9 +68,9 @@ gridWords grid rest =
     ∷ pos (grid .dstart)
     ∷ rest
 
--- these, then start azimuth, octet 38, elevation
+-- these, then start azimuth, mode of operation, elevation
 abbrev pub infoWords : CutInfo → List ℤ
-infoWords info = gridWords (info .grid) (pos (info .«start_azimuth») ∷ pos (info .octet38) ∷ elevationWords (info .elevation))
+infoWords info = gridWords (info .grid) (pos (info .«start_azimuth») ∷ pos (info .mode) ∷ elevationWords (info .elevation))
 
 abbrev pub cutWords : CutAnswer → List ℤ → List ℤ
 cutWords (C.Cut info) w = sets w 0 (infoWords info)

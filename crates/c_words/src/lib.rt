@@ -208,7 +208,7 @@ fn put_elevation(elevation: Elevation, words: &mut [i64; 10])
     }
 }
 
-// The grid's words, start azimuth, octet 38, elevation.
+// The grid's words, start azimuth, mode of operation, elevation.
 fn put_info(info: CutInfo, words: &mut [i64; 10])
     ensures { λ r. ⌜ now (words .exit) ≡ sets (now (words .entry)) 0 (infoWords info) ⌝ }
 {
@@ -216,7 +216,7 @@ fn put_info(info: CutInfo, words: &mut [i64; 10])
     let grid = info.grid;
     put_grid(grid, words);
     words[6] = info.start_azimuth as i64;
-    words[7] = info.octet38 as i64;
+    words[7] = info.mode as i64;
     put_elevation(elevation, words);
 }
 

@@ -1,9 +1,11 @@
 -- Why a call on cut i of a file refuses, by FORMAT.md, "Order of checks": the file's own refusal; then 10 for the cut; then by what the call asks of the cut. Of any format.
 use Prim.Native.Nat.{ℕ, _≤_, _<_}
+use mathlib.Core.Logic.{_⊎_}
 use mathlib.Core.List.{List}
 use lib.ListN.{length, getD}
 use Rattle.sections.specs.Refusal.{refuse}
 use Rattle.sections.specs.Checks.{FormatChecks}
+use Rattle.sections.specs.Parts.{binsIn, raysIn}
 use Rattle.sections.specs.Verdict.{noCut}
 use Rattle.sections.specs.Accepted.{Format, AcceptedBy}
 use Rattle.sections.specs.Refused.{RefusedBy}
@@ -23,6 +25,10 @@ Asking Wrong c = CutReason c (Wrong c) ⊥ ⊥
 
 abbrev pub Filling : (Cut → Type 0) → (Cut → Type 0) → Cut → Refusal → Type 0
 Filling Wrong Short c = CutReason c (Wrong c) (Short c) ⊥
+
+-- of a bin call: the ray or the bin is outside
+abbrev pub BinFault : List ℕ → ℕ → ℕ → Cut → Refusal → Type 0
+BinFault s ray bin = Asking (λ c. (raysIn s c ≤ ray) ⊎ (binsIn s c ≤ bin))
 
 pub data Reason (own : FormatChecks) (format : Format) (s : List ℕ) (i : ℕ) (OnCut : Cut → Refusal → Type 0) : Refusal → Type 0 where
   by-file : {r : Refusal} → RefusedBy own s r → Reason own format s i OnCut r

@@ -1,21 +1,16 @@
 -- DEMAND 1. Any octets may be lent. Every call gives its answer or one numbered refusal with its place, by FORMAT.md, "Order of checks", and on a
 -- refusal no octet or word of a lent buffer has changed. Both ways: a call refuses so exactly where its reason holds (`polar` specs/Reasons.antt), and answers exactly where none does. (That every call ends and
 -- asks nothing: each function is proved, and none has a `requires`.) The idea: the answer is a function of the verdict, so it is taken apart by the verdict and then by each test.
-use Prim.Native.Nat.{ℕ, _≤_, _<_, min}
+use Prim.Native.Nat.{ℕ, min}
 use mathlib.Core.Path.{_≡_, refl, sym, _∙_, subst}
-use mathlib.Core.Logic.{_⊎_, inl, inr, ⊎-elim, _↔_}
+use mathlib.Core.Logic.{_⊎_, inl, inr, _↔_}
 use mathlib.Core.List.{List}
-use mathlib.Core.Bool.{Bool, true, false, cond, false≢true, _&&_}
+use mathlib.Core.Bool.{true}
 use native.Mathlib.Omega.{arith}
-use borrow.Author.Tests.{ltb-true, ltb-false}
-use lib.Dec.{ltb}
 use lib.ListN.{length}
 use lib.IntN.{ℤ}
-use Rattle.sections.specs.Refusal.{refuse}
 use Rattle.sections.specs.Parts.{binsIn, raysIn}
-use Rattle.sections.specs.declared.Cut.{Cut}
 use Rattle.sections.specs.declared.Refusal.{Refusal}
-use Rattle.sections.specs.declared.Why.the-variants.{Argument, Room}
 use Rattle.base_format.specs.Parts.{productIn, levelIn}
 use Rattle.base_format.specs.Checks.{baseChecks}
 use Rattle.base_format.specs.Verdict.{RefusedBy}
@@ -25,20 +20,19 @@ use Rattle.values.specs.Reading.{readingOf}
 use Rattle.values.specs.declared.Reading.{Reading}
 use Rattle.values.specs.declared.Reading.the-variants as N
 use Rattle.stretches.specs.Stretch.{perEntry}
-use Rattle.stretches.specs.Call.{rightT, rightPoint, answerOf}
+use Rattle.stretches.specs.Call.{rightT, rightPoint}
 use Rattle.stretches.specs.declared.Listing.{Listing}
-use Rattle.cuts.specs.Bins.{stretchesIn}
-use Rattle.calls.specs.Reasons.{Asking, by-argument, by-room, by-record}
 use Rattle.calls.specs.declared.RayAnswer.{RayAnswer}
 use Rattle.calls.specs.declared.RayAnswer.the-variants as R
 use Rattle.calls.specs.declared.BinAnswer.{BinAnswer}
 use Rattle.calls.specs.declared.BinAnswer.the-variants as B
-use Rattle.calls.proofs.ByVerdict.{file-refused, by-file-verdict, reason, by-reason, Answers, answers-exactly, ray-answers, BinAnswered, bin-answers}
+use Rattle.calls.proofs.ByVerdict.{file-refused, by-file-verdict, Answers, answers-exactly, ray-answers, BinAnswered, bin-answers}
+use Rattle.calls.proofs.Judging.{refuses, never, not-le, not-both, bin-judges, ray-judges}
 use Rattle.polar.specs.Opening.{summaryOf, openAnswer, infoOf, cutAnswer}
 use Rattle.polar.specs.Rays.{rayOn, rayAnswer, levelsAfter, marksAfter, valuesAfter, binOf, binOn, binAnswer}
 use Rattle.polar.specs.Stretching.{stretchesOn, stretchAnswer, wordsAfter}
 use Rattle.polar.specs.Promises.{OpenPromise, CutPromise, LevelsPromise, ValuesPromise, BinPromise, StretchesPromise}
-use Rattle.polar.specs.Reasons.{CutReasons, RayFault, RayReasons, BinFault, BinReasons, ListFault, ListReasons}
+use Rattle.polar.specs.Reasons.{CutReasons, RayReasons, BinReasons, ListReasons}
 use Rattle.polar.specs.declared.Summary.{Summary}
 use Rattle.polar.specs.declared.CutInfo.{CutInfo}
 use Rattle.polar.specs.declared.Opened.{Opened}
@@ -47,7 +41,6 @@ use Rattle.polar.specs.declared.CutAnswer.{CutAnswer}
 use Rattle.polar.specs.declared.CutAnswer.the-variants as C
 use Rattle.polar.specs.declared.StretchAnswer.{StretchAnswer}
 use Rattle.polar.specs.declared.StretchAnswer.the-variants as S
-use Rattle.polar.proofs.Answering.{ray-none, ray-short, bin-ray-none, bin-none, list-wrong-t, list-wrong-point, list-short}
 
 -- ── open ──
 
@@ -65,65 +58,40 @@ refused-open s r a h p = p .answer ∙ file-refused baseChecks baseFormat exact 
 
 -- ── cut ──
 
-pub cut-refused : (s : List ℕ) (i : ℕ) (q : Refusal) → CutPromise s i (C.Refused q) → CutReasons s i q
+cut-refuses : (s : List ℕ) (i : ℕ) (q : Refusal) → (cutAnswer s i ≡ C.Refused q) ↔ CutReasons s i q
 unfolding cutAnswer
-cut-refused s i q p =
-    reason baseChecks baseFormat exact s C.Refused (λ c. C.Cut (infoOf s c)) i (Asking (λ c. ⊥)) q (λ r e. cc e)
-    (λ c e. let z : _≡_ {A = ℕ} 0 1 = cc e in absurd (omega arith))
-    (sym (p .answer))
+cut-refuses s i =
+    refuses baseChecks baseFormat exact s i {answer = λ c. C.Cut (infoOf s c)}
+    (λ c. record { wrong = never; short = never; unfit = never; answers = λ q e. let z : _≡_ {A = ℕ} 0 1 = cc e in omega arith; same = λ p q e. cc e })
 
-no-fault : (s : List ℕ) (c : Cut) (r : Refusal) → Asking (λ c. ⊥) c r → C.Cut (infoOf s c) ≡ C.Refused r
-no-fault s c r (by-argument w) = absurd w
-no-fault s c r (by-room w x) = absurd x
-no-fault s c r (by-record w x y) = absurd y
+pub cut-refused : (s : List ℕ) (i : ℕ) (q : Refusal) → CutPromise s i (C.Refused q) → CutReasons s i q
+cut-refused s i q p = cut-refuses s i q .0 (sym (p .answer))
 
 pub refused-cut : (s : List ℕ) (i : ℕ) (q : Refusal) (a : CutAnswer) → CutReasons s i q → CutPromise s i a → a ≡ C.Refused q
-unfolding cutAnswer
-refused-cut s i q a h p = p .answer ∙ by-reason baseChecks baseFormat exact s C.Refused (λ c. C.Cut (infoOf s c)) i (Asking (λ c. ⊥)) q (no-fault s) h
+refused-cut s i q a h p = p .answer ∙ cut-refuses s i q .1 h
 
 -- ── the ray calls ──
 
-ray-reason : (s : List ℕ) (i ray room : ℕ) (q : Refusal) → R.Refused q ≡ rayAnswer s i ray room → RayReasons s i ray room q
+ray-refuses : (s : List ℕ) (i ray room : ℕ) (q : Refusal) → (rayAnswer s i ray room ≡ R.Refused q) ↔ RayReasons s i ray room q
 unfolding rayAnswer rayOn
-ray-reason s i ray room q h =
-    reason baseChecks baseFormat exact s R.Refused (rayOn s ray room) i (RayFault s ray room) q (λ r e. cc e)
-    (λ c e. split c (ltb ray (raysIn s c)) (ltb room (binsIn s c)) refl refl e)
-    (sym h)
-  where
-    split : (c : Cut) (t u : Bool) → ltb ray (raysIn s c) ≡ t → ltb room (binsIn s c) ≡ u
-        → cond t (cond u (R.Refused (refuse Room 0)) R.Written) (R.Refused (refuse Argument 0)) ≡ R.Refused q → RayFault s ray room c q
-    split c false u a b e = let same : refuse Argument 0 ≡ q = cc e in rw (sym same) (by-argument (ltb-false _ _ a))
-    split c true true a b e =
-        let same : refuse Room 0 ≡ q = cc e in
-        let in-rays : ray < raysIn s c = ltb-true _ _ a in
-        rw (sym same) (by-room (λ w. omega arith) (ltb-true _ _ b))
-    split c true false a b e = let z : _≡_ {A = ℕ} 0 1 = cc e in absurd (omega arith)
-
-ray-fault : (s : List ℕ) (ray room : ℕ) (c : Cut) (r : Refusal) → RayFault s ray room c r → rayOn s ray room c ≡ R.Refused r
-ray-fault s ray room c r (by-argument w) = sym (ray-none s c _ _ refl refl ray room w)
-ray-fault s ray room c r (by-room right short) = sym (ray-short s c _ _ refl refl ray room (omega (arith, right)) short)
-ray-fault s ray room c r (by-record right fits w) = absurd w
-
-reason-ray : (s : List ℕ) (i ray room : ℕ) (q : Refusal) → RayReasons s i ray room q → rayAnswer s i ray room ≡ R.Refused q
-unfolding rayAnswer
-reason-ray s i ray room q h = by-reason baseChecks baseFormat exact s R.Refused (rayOn s ray room) i (RayFault s ray room) q (ray-fault s ray room) h
+ray-refuses s i ray room = refuses baseChecks baseFormat exact s i (λ c. ray-judges s ray room c true never)
 
 module _ (s : List ℕ) (i ray : ℕ) (q : Refusal) where
   pub levels-refused : (out out′ : List ℕ) → LevelsPromise s i ray out (R.Refused q) out′ → RayReasons s i ray (length out) q × (out′ ≡ out)
   unfolding levelsAfter
-  levels-refused out out′ p = (ray-reason s i ray (length out) q (p .answer), p .after)
+  levels-refused out out′ p = (ray-refuses s i ray (length out) q .0 (sym (p .answer)), p .after)
 
   pub refused-levels : (out out′ : List ℕ) (a : RayAnswer) → RayReasons s i ray (length out) q → LevelsPromise s i ray out a out′ → a ≡ R.Refused q
-  refused-levels out out′ a h p = p .answer ∙ reason-ray s i ray (length out) q h
+  refused-levels out out′ a h p = p .answer ∙ ray-refuses s i ray (length out) q .1 h
 
   pub values-refused : (marks marks′ : List ℕ) (values values′ : List ℤ) → ValuesPromise s i ray marks values (R.Refused q) marks′ values′
       → RayReasons s i ray (min (length marks) (length values)) q × (marks′ ≡ marks) × (values′ ≡ values)
   unfolding marksAfter valuesAfter
-  values-refused marks marks′ values values′ p = (ray-reason s i ray (min (length marks) (length values)) q (p .answer), p .marked, p .valued)
+  values-refused marks marks′ values values′ p = (ray-refuses s i ray (min (length marks) (length values)) q .0 (sym (p .answer)), p .marked, p .valued)
 
   pub refused-values : (marks marks′ : List ℕ) (values values′ : List ℤ) (a : RayAnswer) → RayReasons s i ray (min (length marks) (length values)) q
       → ValuesPromise s i ray marks values a marks′ values′ → a ≡ R.Refused q
-  refused-values marks marks′ values values′ a h p = p .answer ∙ reason-ray s i ray (min (length marks) (length values)) q h
+  refused-values marks marks′ values values′ a h p = p .answer ∙ ray-refuses s i ray (min (length marks) (length values)) q .1 h
 
 -- ── bin value ──
 
@@ -133,67 +101,37 @@ unfolding binOf
 reading-answers N.Missing q h = let z : _≡_ {A = ℕ} 0 1 = cc in omega arith
 reading-answers (N.Number n) q h = let z : _≡_ {A = ℕ} 0 1 = cc in omega arith
 
-pub bin-refused : (s : List ℕ) (i ray bin : ℕ) (q : Refusal) → BinPromise s i ray bin (B.Refused q) → BinReasons s i ray bin q
+bin-refuses : (s : List ℕ) (i ray bin : ℕ) (q : Refusal) → (binAnswer s i ray bin ≡ B.Refused q) ↔ BinReasons s i ray bin q
 unfolding binAnswer binOn
-bin-refused s i ray bin q p =
-    reason baseChecks baseFormat exact s B.Refused (binOn s ray bin) i (BinFault s ray bin) q (λ r e. cc e)
-    (λ c e. split c (ltb ray (raysIn s c)) (ltb bin (binsIn s c)) refl refl e)
-    (sym (p .answer))
-  where
-    split : (c : Cut) (t u : Bool) → ltb ray (raysIn s c) ≡ t → ltb bin (binsIn s c) ≡ u
-        → cond (t && u) (binOf (readingOf (productIn s c) (levelIn s c ray bin))) (B.Refused (refuse Argument 0)) ≡ B.Refused q → BinFault s ray bin c q
-    split c false u a b e = let same : refuse Argument 0 ≡ q = cc e in rw (sym same) (by-argument (inl (ltb-false _ _ a)))
-    split c true false a b e = let same : refuse Argument 0 ≡ q = cc e in rw (sym same) (by-argument (inr (ltb-false _ _ b)))
-    split c true true a b e = absurd (reading-answers _ q e)
+bin-refuses s i ray bin = refuses baseChecks baseFormat exact s i (λ c. bin-judges s ray bin c (binOf (readingOf (productIn s c) (levelIn s c ray bin))) (reading-answers _))
 
-bin-fault : (s : List ℕ) (ray bin : ℕ) (c : Cut) (r : Refusal) → BinFault s ray bin c r → binOn s ray bin c ≡ B.Refused r
-bin-fault s ray bin c r (by-argument (inl w)) = sym (bin-ray-none s c _ _ refl refl ray bin w)
-bin-fault s ray bin c r (by-argument (inr w)) = sym (bin-none s c _ _ refl refl ray bin w)
-bin-fault s ray bin c r (by-room right x) = absurd x
-bin-fault s ray bin c r (by-record right fits x) = absurd x
+pub bin-refused : (s : List ℕ) (i ray bin : ℕ) (q : Refusal) → BinPromise s i ray bin (B.Refused q) → BinReasons s i ray bin q
+bin-refused s i ray bin q p = bin-refuses s i ray bin q .0 (sym (p .answer))
 
 pub refused-bin : (s : List ℕ) (i ray bin : ℕ) (q : Refusal) (a : BinAnswer) → BinReasons s i ray bin q → BinPromise s i ray bin a → a ≡ B.Refused q
-unfolding binAnswer
-refused-bin s i ray bin q a h p = p .answer ∙ by-reason baseChecks baseFormat exact s B.Refused (binOn s ray bin) i (BinFault s ray bin) q (bin-fault s ray bin) h
+refused-bin s i ray bin q a h p = p .answer ∙ bin-refuses s i ray bin q .1 h
 
 -- ── stretches ──
 
+list-refuses : (s : List ℕ) (i : ℕ) (t : ℤ) (ray bin room : ℕ) (q : Refusal) → (stretchAnswer s i t ray bin room ≡ S.Refused q) ↔ ListReasons s i t ray bin room q
+unfolding stretchAnswer stretchesOn
+list-refuses s i t ray bin room =
+    refuses baseChecks baseFormat exact s i
+    (λ c. record {
+      wrong = not-both (rightT t) (rightPoint (binsIn s c) (raysIn s c) ray bin) (λ e. e, λ e. e) (λ e. e, λ e. e);
+      short = not-le perEntry room;
+      unfit = never;
+      answers = λ q e. let z : _≡_ {A = ℕ} 0 1 = cc e in omega arith;
+      same = λ p q e. cc e;
+    })
+
 module _ (s : List ℕ) (i : ℕ) (t : ℤ) (ray bin : ℕ) (words words′ : List ℕ) (q : Refusal) where
   pub stretches-refused : StretchesPromise s i t ray bin words (S.Refused q) words′ → ListReasons s i t ray bin (length words) q × (words′ ≡ words)
-  unfolding stretchAnswer stretchesOn wordsAfter
-  stretches-refused p = (
-    reason baseChecks baseFormat exact s S.Refused (stretchesOn s t ray bin (length words)) i (ListFault s t ray bin (length words)) q (λ r e. cc e)
-        (λ c e. split c (rightT t) (rightPoint (binsIn s c) (raysIn s c) ray bin) (ltb (length words) perEntry) refl refl refl e)
-        (sym (p .answer)),
-    p .after,
-  )
-    where
-      split : (c : Cut) (a b u : Bool) → rightT t ≡ a → rightPoint (binsIn s c) (raysIn s c) ray bin ≡ b → ltb (length words) perEntry ≡ u
-          → cond (a && b) (cond u (S.Refused (refuse Room 0)) (S.Listed (answerOf (raysIn s c) (length words) (stretchesIn s c t ray bin)))) (S.Refused (refuse Argument 0)) ≡ S.Refused q
-          → ListFault s t ray bin (length words) c q
-      split c false b u ea eb eu e = let same : refuse Argument 0 ≡ q = cc e in rw (sym same) (by-argument (inl ea))
-      split c true false u ea eb eu e = let same : refuse Argument 0 ≡ q = cc e in rw (sym same) (by-argument (inr eb))
-      split c true true true ea eb eu e =
-          let same : refuse Room 0 ≡ q = cc e in
-          rw (sym same) (by-room (⊎-elim (λ w. false≢true (sym w ∙ ea)) (λ w. false≢true (sym w ∙ eb))) (ltb-true _ _ eu))
-      split c true true false ea eb eu e = let z : _≡_ {A = ℕ} 0 1 = cc e in absurd (omega arith)
+  unfolding wordsAfter
+  stretches-refused p = (list-refuses s i t ray bin (length words) q .0 (sym (p .answer)), p .after)
 
-not-wrong : (b : Bool) → (b ≡ false → ⊥) → b ≡ true
-not-wrong true n = refl
-not-wrong false n = absurd (n refl)
-
-list-fault : (s : List ℕ) (t : ℤ) (ray bin room : ℕ) (c : Cut) (r : Refusal) → ListFault s t ray bin room c r → stretchesOn s t ray bin room c ≡ S.Refused r
-list-fault s t ray bin room c r (by-argument (inl w)) = sym (list-wrong-t s c _ _ refl refl ray t bin room w)
-list-fault s t ray bin room c r (by-argument (inr w)) = sym (list-wrong-point s c _ _ refl refl ray t bin room w)
-list-fault s t ray bin room c r (by-room right short) =
-    sym (list-short s c _ _ refl refl ray t bin room (not-wrong (rightT t) (λ w. right (inl w))) (not-wrong (rightPoint (binsIn s c) (raysIn s c) ray bin) (λ w. right (inr w))) short)
-list-fault s t ray bin room c r (by-record right fits x) = absurd x
-
-pub refused-stretches : (s : List ℕ) (i : ℕ) (t : ℤ) (ray bin : ℕ) (words words′ : List ℕ) (q : Refusal) (a : StretchAnswer) → ListReasons s i t ray bin (length words) q
-    → StretchesPromise s i t ray bin words a words′ → a ≡ S.Refused q
-unfolding stretchAnswer
-refused-stretches s i t ray bin words words′ q a h p =
-    p .answer ∙ by-reason baseChecks baseFormat exact s S.Refused (stretchesOn s t ray bin (length words)) i (ListFault s t ray bin (length words)) q (list-fault s t ray bin (length words)) h
+  pub refused-stretches : (a : StretchAnswer) → ListReasons s i t ray bin (length words) q → StretchesPromise s i t ray bin words a words′ → a ≡ S.Refused q
+  refused-stretches a h p = p .answer ∙ list-refuses s i t ray bin (length words) q .1 h
 
 -- ── and it answers exactly where no reason to refuse holds ──
 

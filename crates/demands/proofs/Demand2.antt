@@ -1,11 +1,11 @@
 -- DEMAND 2. A file is accepted exactly when it meets the layouts and limits of FORMAT.md and each cut's data decodes to exactly its bins. The ray and bin
 -- calls answer for exactly those bins, at the ray and bin asked. Each level above 0 gets its published value; level 0 never gets a number. Levels written
 -- as run-length octets read back. The idea: on an accepted file each answer is that of the cut asked for, and the cut's bins are what its data decodes to.
-use Prim.Native.Nat.{ℕ, _*_, _^_, _≤_, _<_, min}
+use Prim.Native.Nat.{ℕ, _*_, _≤_, _<_, min}
 use mathlib.Core.Path.{_≡_, sym, _∙_, ap}
 use mathlib.Core.List.{List}
 use native.Mathlib.Omega.{arith}
-use borrow.Author.Tests.{lt-ltb, le-ltb}
+use borrow.Author.Tests.{lt-ltb, le-leb}
 use lib.ListN.{length, getD, take}
 use lib.IntN.{ℤ, pos}
 use Rattle.fraction.specs.Near.{NearZ}
@@ -27,7 +27,7 @@ use Rattle.values.proofs.Readings.{no-number, its-number, published-near}
 use Rattle.values.proofs.Ray.{mark-at, value-at}
 use Rattle.sections.specs.Parts.{binsIn, raysIn}
 use Rattle.base_format.specs.Parts.{dataAt, productIn, greatestIn, levelsIn, levelIn}
-use Rattle.sections.specs.Verdict.{accepted, noCut}
+use Rattle.sections.specs.Verdict.{noCut}
 use Rattle.base_format.specs.Verdict.{verdict}
 use Rattle.base_format.specs.Checks.{baseChecks}
 use Rattle.base_format.specs.Accepted.{baseFormat, Accepted}
@@ -102,7 +102,7 @@ module _ (s : List ℕ) (cs : List Cut) (a : Accepted s cs) (i : ℕ) (lt : i < 
   module _ (ray : ℕ) (h : ray < raysIn s cut) where
     ray-written : (room : ℕ) → binsIn s cut ≤ room → rayAnswer s i ray room ≡ R.Written
     unfolding rayAnswer rayOn
-    ray-written room k = on-accepted _ _ ∙ rw (lt-ltb ray (raysIn s cut) h, le-ltb room (binsIn s cut) k)
+    ray-written room k = on-accepted _ _ ∙ rw (lt-ltb ray (raysIn s cut) h, le-leb (binsIn s cut) room k)
 
     -- ray levels: bin b of the ray at place b, and past Nb all as it was
     pub levels-answer : (out out′ : List ℕ) (r : RayAnswer) → binsIn s cut ≤ length out → LevelsPromise s i ray out r out′

@@ -5,10 +5,10 @@
 use Prim.Native.Nat.{ℕ, suc, _+_, _-_, _*_, _/_, _≤_, _<_}
 use mathlib.Core.Path.{_≡_, refl, sym, _∙_, ap, subst}
 use mathlib.Core.List.{List, [], _∷_, _++_, append-assoc, append-nil}
-use mathlib.Core.Bool.{Bool, true, false, cond, _&&_}
+use mathlib.Core.Bool.{Bool, true, false, _&&_}
 use native.Mathlib.Omega.{arith}
-use borrow.Author.Tests.{lt-ltb, le-ltb, ltb-false}
-use lib.Dec.{ltb}
+use borrow.Author.Tests.{lt-ltb, le-leb, leb-true}
+use lib.Dec.{leb}
 use lib.ListN.{length, getD, take, drop, length-drop, take-append-drop}
 use lib.Seq.{take-at}
 use lib.IntN.{ℤ}
@@ -21,7 +21,7 @@ use Rattle.sections.specs.declared.Cut.{Cut}
 use Rattle.base_format.proofs.GoodCuts.{good-accepted}
 use Rattle.stretches.specs.Stretch.{Entry, perEntry, wordsOf}
 use Rattle.stretches.specs.Meaning.{IsStretch, IsList, Wanted}
-use Rattle.stretches.specs.Call.{kindByThreshold, stretchesFrom, fitting, answerOf, outOf, rightT, rightPoint}
+use Rattle.stretches.specs.Call.{kindByThreshold, fitting, answerOf, outOf, rightT, rightPoint}
 use Rattle.stretches.specs.declared.Listing.{Listing}
 use Rattle.stretches.proofs.Meaning.{one-list, is-list, list-right}
 use Rattle.stretches.proofs.Portions.{from-start, from-end, from-next, next-end, next-right}
@@ -31,8 +31,7 @@ use Rattle.cuts.specs.Bins.{stretchesIn}
 use Rattle.polar.specs.Stretching.{stretchesOn, stretchAnswer, wordsAfter}
 use Rattle.polar.specs.declared.StretchAnswer.{StretchAnswer}
 use Rattle.polar.specs.declared.StretchAnswer.the-variants as S
-use Rattle.sections.specs.Refusal.{refuse}
-use Rattle.sections.specs.declared.Why.the-variants.{Argument, Room}
+use Rattle.calls.specs.Cuts.{judged}
 use Rattle.polar.specs.Promises.{StretchesPromise}
 use Rattle.demands.specs.Fetching.{Fetched, none, call}
 use Rattle.demands.proofs.Demand2.{on-accepted, cut-is}
@@ -79,7 +78,7 @@ module _ (s : List ℕ) (cs : List Cut) (a : Accepted s cs) (i : ℕ) (lt : i < 
   call-lists ht ray bin hp words words′ r room p =
       let c = getD cs i noCut in
       let e : r ≡ S.Listed (answerOf (raysIn s c) (length words) (listOf ray bin)) =
-      p .answer ∙ on-accepted s cs a i lt _ _ ∙ rw (ht, hp, le-ltb (length words) perEntry room) in (
+      p .answer ∙ on-accepted s cs a i lt _ _ ∙ rw (ht, hp, le-leb perEntry (length words) room) in (
         e,
         p .after
             ∙ ap (λ (x : StretchAnswer). wordsAfter x s i t ray bin words) e
@@ -107,21 +106,21 @@ module _ (s : List ℕ) (cs : List Cut) (a : Accepted s cs) (i : ℕ) (lt : i < 
   unfolding stretchAnswer stretchesOn wordsAfter
   listing-is ray bin words words′ l p =
       let c = getD cs i noCut in
-      go (rightT t && rightPoint (binsIn s c) (raysIn s c) ray bin) (ltb (length words) perEntry) refl (p .answer ∙ on-accepted s cs a i lt _ _)
+      go (rightT t && rightPoint (binsIn s c) (raysIn s c) ray bin) (leb perEntry (length words)) refl (p .answer ∙ on-accepted s cs a i lt _ _)
     where
-      go : (b u : Bool) → ltb (length words) perEntry ≡ u
-          → S.Listed l ≡ cond b (cond u (S.Refused (refuse Room 0)) (S.Listed (answerOf (raysIn s (getD cs i noCut)) (length words) (stretchesIn s (getD cs i noCut) t ray bin)))) (S.Refused (refuse Argument 0))
+      go : (b u : Bool) → leb perEntry (length words) ≡ u
+          → S.Listed l ≡ judged S.Refused (getD cs i noCut) b u true (S.Listed (answerOf (raysIn s (getD cs i noCut)) (length words) (stretchesIn s (getD cs i noCut) t ray bin)))
           → Listing-is ray bin words words′ l
-      go true false e h =
+      go true true e h =
           record {
-            room = ltb-false _ _ e;
+            room = leb-true _ _ e;
             answer = cc h;
             after =
                 p .after
                 ∙ ap (λ (x : Cut). outOf words (stretchesIn s x t ray bin)) (cut-is s cs a i lt)
                 ∙ words-front words (listOf ray bin);
           }
-      go true true e h = let z : _≡_ {A = ℕ} 0 1 = cc h in absurd (omega arith)
+      go true false e h = let z : _≡_ {A = ℕ} 0 1 = cc h in absurd (omega arith)
       go false u e h = let z : _≡_ {A = ℕ} 0 1 = cc h in absurd (omega arith)
 
   -- the entries that a call hands over are the front of its list

@@ -105,7 +105,7 @@ pub southern-cut : (r : CutAnswer) → CutPromise twoCuts 0 r
     → r ≡ C.Cut (record {
       grid = record { nb = 2; nr = 1; latitude = negsuc 4; longitude = 139959722; dx = 500000; dstart = 250 };
       «start_azimuth» = 4500;
-      octet38 = 2;
+      mode = 2;
       elevation = Missing;
     })
 unfolding inOctets tableOctets octetsOf signMagnitude tableOf valuesFrom published reflectivity levelCount cutAnswer onCut infoOf gridAt elevationOf binsAt raysAt signed field be
@@ -116,7 +116,7 @@ pub own-section-3 : (r : CutAnswer) → CutPromise twoCuts 1 r
     → r ≡ C.Cut (record {
       grid = record { nb = 1; nr = 3; latitude = pos 7; longitude = 139959722; dx = 500000; dstart = 250 };
       «start_azimuth» = 4500;
-      octet38 = 2;
+      mode = 2;
       elevation = Hundredths (negsuc 4);
     })
 unfolding inOctets tableOctets octetsOf signMagnitude tableOf valuesFrom published reflectivity levelCount cutAnswer onCut infoOf gridAt elevationOf binsAt raysAt signed field be

@@ -23,9 +23,9 @@ use Rattle.sections.proofs.Order.{either-of}
 use Rattle.sections.proofs.Each.{contextFor, checked, each-cut}
 use Rattle.sections.proofs.There.{AllThere}
 use Rattle.dual_format.specs.Rules.{flagRules, rules3, rules5, widthRule}
-use Rattle.dual_format.specs.Fields.{referenceAt, binaryAt, decimalAt, widthAt, length7}
+use Rattle.dual_format.specs.Fields.{referenceAt, binaryScaleAt, decimalScaleAt, widthAt, length7}
 use Rattle.dual_format.specs.Checks.{dualChecks}
-use Rattle.dual_format.specs.Parts.{referenceIn, binaryIn, decimalIn, widthIn}
+use Rattle.dual_format.specs.Parts.{referenceIn, binaryScaleIn, decimalScaleIn, widthIn}
 use Rattle.dual_format.specs.Accepted.{Section3, dualFormat, Accepted}
 use Rattle.dual_format.specs.Good.{GoodCut}
 use Rattle.dual_format.proofs.Says.{says}
@@ -36,14 +36,14 @@ width-is : (s : List ℕ) (at : ℕ) → meets s at widthRule ≡ true → (widt
 unfolding meets widthAt
 width-is s at h = either-of (meets s at (is 20 1 8)) (meets s at (is 20 1 16)) h (λ e. inl (is-exactly s at 20 1 8 e)) (λ e. inr (is-exactly s at 20 1 16 e))
 
-packing-of : (s : List ℕ) (x : Context) (at : ℕ) → AllHold (dualChecks s x at 5) → Packing (referenceAt s at) (binaryAt s at) (decimalAt s at) (widthAt s at)
-unfolding rules5 binaryAt decimalAt dualChecks
+packing-of : (s : List ℕ) (x : Context) (at : ℕ) → AllHold (dualChecks s x at 5) → Packing (referenceAt s at) (binaryScaleAt s at) (decimalScaleAt s at) (widthAt s at)
+unfolding rules5 binaryScaleAt decimalScaleAt dualChecks
 packing-of s x at a =
     let p = and-true-both (finiteSingle (referenceAt s at)) (meets s at widthRule) (a .1 .1 .0) in
     record {
       reference = p .0;
-      binary = within-is s at 16 2 0 2 (nth-rule s at rules5 (is 0 0 0) (a .1 .0) 1 (omega arith)) .1;
-      decimal = within-is s at 18 2 0 4 (nth-rule s at rules5 (is 0 0 0) (a .1 .0) 2 (omega arith)) .1;
+      binary-scale = within-is s at 16 2 0 2 (nth-rule s at rules5 (is 0 0 0) (a .1 .0) 1 (omega arith)) .1;
+      decimal-scale = within-is s at 18 2 0 4 (nth-rule s at rules5 (is 0 0 0) (a .1 .0) 2 (omega arith)) .1;
       cells = width-is s at (p .1);
     }
 
@@ -62,7 +62,7 @@ length-of s s3 s5 w =
 -- one cut, of the body that starts at `at` under the section 3 at `s3`: by the checks of its sections, which all hold
 good-body : (s : List ℕ) (first s3 at : ℕ) (c : Cut) (next : ℕ) → AllThere s s3 → Section3 (sectionAt s s3)
     → Body dualFormat s (endOf s) first s3 at c next → GoodCut s c
-unfolding rules3 referenceIn binaryIn decimalIn widthIn binsIn raysIn dualChecks
+unfolding rules3 referenceIn binaryScaleIn decimalScaleIn widthIn binsIn raysIn dualChecks
 good-body s first s3 at c next h three b =
     let k = checked dualChecks dualFormat says s first s3 at c next h three b in
     let up-to = b .seven .up-to in

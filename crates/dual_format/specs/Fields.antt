@@ -25,11 +25,11 @@ siteAt s at = field s at 28 2
 unfoldable pub referenceAt : List ℕ → ℕ → ℕ
 referenceAt s at = field s at 12 4
 
-unfoldable pub binaryAt : List ℕ → ℕ → ℕ
-binaryAt s at = field s at 16 2
+unfoldable pub binaryScaleAt : List ℕ → ℕ → ℕ
+binaryScaleAt s at = field s at 16 2
 
-unfoldable pub decimalAt : List ℕ → ℕ → ℕ
-decimalAt s at = field s at 18 2
+unfoldable pub decimalScaleAt : List ℕ → ℕ → ℕ
+decimalScaleAt s at = field s at 18 2
 
 unfoldable pub widthAt : List ℕ → ℕ → ℕ
 widthAt s at = field s at 20 1

@@ -6,17 +6,17 @@ use Rattle.scaled.specs.Scaled.{cellOf}
 use Rattle.scaled.specs.declared.Cell.{Cell}
 use Rattle.sections.specs.Parts.{binsIn}
 use Rattle.sections.specs.declared.Cut.{Cut}
-use Rattle.dual_format.specs.Fields.{referenceAt, binaryAt, decimalAt, widthAt}
+use Rattle.dual_format.specs.Fields.{referenceAt, binaryScaleAt, decimalScaleAt, widthAt}
 
 -- R, E, D and the width, of the cut's section 5
 unfoldable pub referenceIn : List ℕ → Cut → ℕ
 referenceIn s c = referenceAt s (c .section5)
 
-unfoldable pub binaryIn : List ℕ → Cut → ℕ
-binaryIn s c = binaryAt s (c .section5)
+unfoldable pub binaryScaleIn : List ℕ → Cut → ℕ
+binaryScaleIn s c = binaryScaleAt s (c .section5)
 
-unfoldable pub decimalIn : List ℕ → Cut → ℕ
-decimalIn s c = decimalAt s (c .section5)
+unfoldable pub decimalScaleIn : List ℕ → Cut → ℕ
+decimalScaleIn s c = decimalScaleAt s (c .section5)
 
 unfoldable pub widthIn : List ℕ → Cut → ℕ
 widthIn s c = widthAt s (c .section5)
@@ -27,4 +27,4 @@ cellIn s c r b = field s (c .section7) (6 + (r * binsIn s c + b) * (widthIn s c 
 
 -- what it tells
 unfoldable pub toldIn : List ℕ → Cut → ℕ → ℕ → Cell
-toldIn s c r b = cellOf (widthIn s c) (referenceIn s c) (binaryIn s c) (decimalIn s c) (cellIn s c r b)
+toldIn s c r b = cellOf (widthIn s c) (referenceIn s c) (binaryScaleIn s c) (decimalScaleIn s c) (cellIn s c r b)

@@ -15,7 +15,7 @@ ghost use Rattle.rules.specs.Fields.{raysAt, pointsAt};
 ghost use Rattle.scaled.specs.Scaled.{finiteSingle};
 ghost use Rattle.sections.specs.Verdict.{firstFault};
 ghost use Rattle.dual_format.specs.Rules.{rules3, scanRules, rules4, rules5, widthRule};
-ghost use Rattle.dual_format.specs.Fields.{siteAt, withLists, referenceAt, binaryAt, decimalAt, widthAt, length7};
+ghost use Rattle.dual_format.specs.Fields.{siteAt, withLists, referenceAt, binaryScaleAt, decimalScaleAt, widthAt, length7};
 ghost use Rattle.dual_format.specs.Checks.{checks3, checks4, checks5, checks7, dualChecks};
 
 // The field rules of each section, as one chain of tests without branches.
@@ -85,14 +85,14 @@ pub fn reference_at(s: &[u8], at: usize) -> u32
     rules::field32(s, at, 12)
 }
 
-pub fn binary_at(s: &[u8], at: usize) -> u16
-    ensures { λ r. ⌜ r ≡ binaryAt (now (s .entry)) at ⌝ }
+pub fn binary_scale_at(s: &[u8], at: usize) -> u16
+    ensures { λ r. ⌜ r ≡ binaryScaleAt (now (s .entry)) at ⌝ }
 {
     rules::field16(s, at, 16)
 }
 
-pub fn decimal_at(s: &[u8], at: usize) -> u16
-    ensures { λ r. ⌜ r ≡ decimalAt (now (s .entry)) at ⌝ }
+pub fn decimal_scale_at(s: &[u8], at: usize) -> u16
+    ensures { λ r. ⌜ r ≡ decimalScaleAt (now (s .entry)) at ⌝ }
 {
     rules::field16(s, at, 18)
 }

@@ -1,4 +1,4 @@
 pub mod Cells
 pub mod Answering
-pub mod Told
+pub mod Theorems
 pub mod Samples

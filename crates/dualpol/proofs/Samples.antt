@@ -20,10 +20,10 @@ use Rattle.sections.specs.declared.Cut.{Cut}
 use Rattle.sections.specs.declared.Refusal.{Refusal}
 use Rattle.sections.specs.declared.Why.the-variants.{SectionLength, Field, Argument, Unread}
 use Rattle.dual_format.specs.Rules.{rules3, scanRules, rules4, rules5}
-use Rattle.dual_format.specs.Fields.{withLists, siteAt, referenceAt, binaryAt, decimalAt, widthAt, length7}
+use Rattle.dual_format.specs.Fields.{withLists, siteAt, referenceAt, binaryScaleAt, decimalScaleAt, widthAt, length7}
 use Rattle.dual_format.specs.Checks.{dualChecks}
 use Rattle.dual_format.specs.Verdict.{verdict}
-use Rattle.dual_format.specs.Parts.{referenceIn, binaryIn, decimalIn, widthIn, cellIn, toldIn}
+use Rattle.dual_format.specs.Parts.{referenceIn, binaryScaleIn, decimalScaleIn, widthIn, cellIn, toldIn}
 use Rattle.calls.specs.Cuts.{onFile, onCut}
 use Rattle.calls.specs.declared.BinAnswer.{BinAnswer}
 use Rattle.calls.specs.declared.BinAnswer.the-variants as B
@@ -218,12 +218,12 @@ all-ones-missing r p = p .answer ∙ ap (onCut B.Refused (binOn four-cells 0 1) 
 
 -- another bin's cell; the sign of R dropped; E as decimal; D as binary: (-1.5 + 3 x 2) / 100 is 0.045
 pub ray-1-bin-0 : (r : BinAnswer) → BinPromise four-cells 0 1 0 r → r ≡ B.Value (fin false 3242591731706757 (negsuc 55))
-unfolding inOctets binAnswer onCut binOn binOf toldIn cellOf scaledValue add div ofInt ofBits cellIn referenceIn binaryIn decimalIn widthIn referenceAt binaryAt decimalAt widthAt binsIn raysIn binsAt raysAt field be
+unfolding inOctets binAnswer onCut binOn binOf toldIn cellOf scaledValue add div ofInt ofBits cellIn referenceIn binaryScaleIn decimalScaleIn widthIn referenceAt binaryScaleAt decimalScaleAt widthAt binsIn raysIn binsAt raysAt field be
 ray-1-bin-0 r p = p .answer ∙ ap (onCut B.Refused (binOn four-cells 1 0) 0) (verdicts .cells-are)
 
 -- 16-bit cells read least octet first: 0x0102 is 258, and (-1.5 + 258 x 2) / 100 is 5.145
 pub ray-1-bin-1 : (r : BinAnswer) → BinPromise four-cells 0 1 1 r → r ≡ B.Value (fin false 1448188755176325 (negsuc 47))
-unfolding inOctets binAnswer onCut binOn binOf toldIn cellOf scaledValue add div ofInt ofBits cellIn referenceIn binaryIn decimalIn widthIn referenceAt binaryAt decimalAt widthAt binsIn raysIn binsAt raysAt field be
+unfolding inOctets binAnswer onCut binOn binOf toldIn cellOf scaledValue add div ofInt ofBits cellIn referenceIn binaryScaleIn decimalScaleIn widthIn referenceAt binaryScaleAt decimalScaleAt widthAt binsIn raysIn binsAt raysAt field be
 ray-1-bin-1 r p = p .answer ∙ ap (onCut B.Refused (binOn four-cells 1 1) 0) (verdicts .cells-are)
 
 -- a bin past the ray taken

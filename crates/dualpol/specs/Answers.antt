@@ -2,7 +2,7 @@
 use Prim.Native.Nat.{ℕ}
 use mathlib.Core.Path.{_≡_}
 use mathlib.Core.List.{List}
-use mathlib.Core.Bool.{cond, _&&_}
+use mathlib.Core.Bool.{true, _&&_}
 use lib.Dec.{ltb}
 use Rattle.rules.specs.Fields.{parameterAt}
 use Rattle.scaled.specs.Scaled.{Right}
@@ -11,11 +11,9 @@ use Rattle.scaled.specs.declared.Cell.the-variants as L
 use Rattle.sections.specs.Parts.{binsIn, raysIn, timeOf, gridAt}
 use Rattle.sections.specs.declared.Cut.{Cut}
 use Rattle.dual_format.specs.Fields.{siteAt}
-use Rattle.dual_format.specs.Parts.{referenceIn, binaryIn, decimalIn, cellIn, toldIn}
+use Rattle.dual_format.specs.Parts.{referenceIn, binaryScaleIn, decimalScaleIn, cellIn, toldIn}
 use Rattle.dual_format.specs.Verdict.{verdict}
-use Rattle.calls.specs.Cuts.{onFile, onCut, cutAt}
-use Rattle.sections.specs.Refusal.{refuse}
-use Rattle.sections.specs.declared.Why.the-variants.{Argument}
+use Rattle.calls.specs.Cuts.{onFile, onCut, judged, cutAt}
 use Rattle.calls.specs.declared.BinAnswer.{BinAnswer}
 use Rattle.calls.specs.declared.BinAnswer.the-variants as B
 use Rattle.dualpol.specs.declared.DualSummary.{DualSummary}
@@ -50,7 +48,7 @@ binOf L.Missing = B.Missing
 binOf (L.Value x) = B.Value x
 
 unfoldable pub binOn : List ℕ → ℕ → ℕ → Cut → BinAnswer
-binOn s ray bin c = cond (ltb ray (raysIn s c) && ltb bin (binsIn s c)) (binOf (toldIn s c ray bin)) (B.Refused (refuse Argument 0))
+binOn s ray bin c = judged B.Refused c (ltb ray (raysIn s c) && ltb bin (binsIn s c)) true true (binOf (toldIn s c ray bin))
 
 unfoldable pub binAnswer : List ℕ → ℕ → ℕ → ℕ → BinAnswer
 binAnswer s i ray bin = onCut B.Refused (binOn s ray bin) i (verdict s)
@@ -58,7 +56,7 @@ binAnswer s i ray bin = onCut B.Refused (binOn s ray bin) i (verdict s)
 -- a value is within |Y| / 2^51 of the exact Y, and zero where Y is 0
 abbrev pub RightIn : List ℕ → ℕ → ℕ → Cut → BinAnswer → Type 0
 RightIn s ray bin c B.Missing = Unit {0}
-RightIn s ray bin c (B.Value y) = Right y (referenceIn s c) (cellIn s c ray bin) (binaryIn s c) (decimalIn s c)
+RightIn s ray bin c (B.Value y) = Right y (referenceIn s c) (cellIn s c ray bin) (binaryScaleIn s c) (decimalScaleIn s c)
 RightIn s ray bin c (B.Refused q) = Unit {0}
 
 pub record BinPromise (s : List ℕ) (i ray bin : ℕ) (r : BinAnswer) : Type 0 where

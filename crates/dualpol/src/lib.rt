@@ -6,9 +6,9 @@ use calls::Sought;
 use scaled::Cell;
 use sections::Cut;
 use sections::Grid;
+use sections::Judged;
 use sections::Refusal;
 use sections::Time;
-use sections::Why;
 use walks::Walked;
 ghost use mathlib.Core.Path.{_≡_};
 ghost use mathlib.Core.Logic.{_⊎_};
@@ -17,7 +17,7 @@ ghost use lib.ListN.{length};
 ghost use Rattle.rules.specs.Rules.{field};
 ghost use Rattle.scaled.specs.Scaled.{RightCell};
 ghost use Rattle.sections.specs.Parts.{binsIn, raysIn};
-ghost use Rattle.dual_format.specs.Parts.{referenceIn, binaryIn, decimalIn, cellIn, toldIn};
+ghost use Rattle.dual_format.specs.Parts.{referenceIn, binaryScaleIn, decimalScaleIn, cellIn, toldIn};
 ghost use Rattle.dual_format.specs.Good.{GoodCut};
 ghost use Rattle.dualpol.specs.Answers.{summaryOf, OpenPromise, CutPromise, binOf, binOn, RightIn, BinPromise};
 
@@ -97,12 +97,12 @@ fn cell_at(file: &[u8], at: usize, width: u8, n: usize) -> u16
 fn told_in(file: &[u8], c: Cut, ray: usize, bin: usize) -> Cell
     requires { ⌜ GoodCut (now file) c × (ray < raysIn (now file) c) × (bin < binsIn (now file) c) ⌝ }
     ensures exact { λ r. ⌜ r ≡ toldIn (now (file .entry)) c ray bin ⌝ }
-    ensures near { λ r. ⌜ RightCell r (referenceIn (now (file .entry)) c) (cellIn (now (file .entry)) c ray bin) (binaryIn (now (file .entry)) c) (decimalIn (now (file .entry)) c) ⌝ }
+    ensures near { λ r. ⌜ RightCell r (referenceIn (now (file .entry)) c) (cellIn (now (file .entry)) c ray bin) (binaryScaleIn (now (file .entry)) c) (decimalScaleIn (now (file .entry)) c) ⌝ }
 {
     let section5 = c.section5;
     let r = dual_format::reference_at(file, section5);
-    let e = dual_format::binary_at(file, section5);
-    let d = dual_format::decimal_at(file, section5);
+    let e = dual_format::binary_scale_at(file, section5);
+    let d = dual_format::decimal_scale_at(file, section5);
     let width = dual_format::width_at(file, section5);
     let n = ray * sections::bins_in(file, c) + bin;
     scaled::cell_of(r, e, d, width, cell_at(file, c.section7, width, n))
@@ -123,19 +123,9 @@ fn bin_value_on(file: &[u8], c: Cut, ray: usize, bin: usize) -> BinAnswer
     ensures exact { λ r. ⌜ r ≡ binOn (now (file .entry)) ray bin c ⌝ }
     ensures near { λ r. ⌜ RightIn (now (file .entry)) ray bin c r ⌝ }
 {
-    let nr = sections::rays_in(file, c);
-    let nb = sections::bins_in(file, c);
-    if nr <= ray {
-        return BinAnswer::Refused(Refusal {
-            why: Why::Argument,
-            place: 0,
-        });
-    }
-    if nb <= bin {
-        return BinAnswer::Refused(Refusal {
-            why: Why::Argument,
-            place: 0,
-        });
+    let judged = calls::judge_bin(file, c, ray, bin);
+    if let Judged::Refused(refusal) = judged {
+        return BinAnswer::Refused(refusal);
     }
     bin_of(told_in(file, c, ray, bin))
 }

@@ -1,22 +1,18 @@
 -- FORMAT.md, "Rays by a record", the refusals, both ways: a call refuses by exactly the reasons of `records` specs/Reasons.antt, and answers exactly where none of them holds; then no lent memory has changed; by a record it never refuses by 8.
 -- The idea: the answer is a function of the verdict and of three tests.
-use Prim.Native.Nat.{ℕ, _≤_, _<_, min}
+use Prim.Native.Nat.{ℕ, min}
 use mathlib.Core.Path.{_≡_, refl, sym, _∙_, subst}
 use mathlib.Core.Logic.{_↔_}
-use mathlib.Core.Bool.{Bool, true, false, cond}
+use mathlib.Core.Bool.{false}
 use mathlib.Core.List.{List}
 use native.Mathlib.Omega.{arith}
-use borrow.Author.Tests.{ltb-true, ltb-false, lt-ltb}
-use lib.Dec.{ltb, eqb}
+use lib.Dec.{eqb}
 use lib.ListN.{length}
 use lib.IntN.{ℤ}
 use Rattle.index.specs.declared.RayRecord.{RayRecord}
 use Rattle.sections.specs.Refusal.{refuse, numberOf}
-use Rattle.sections.specs.Parts.{binsIn, raysIn}
-use Rattle.sections.specs.declared.Cut.{Cut}
+use Rattle.sections.specs.Parts.{raysIn}
 use Rattle.sections.specs.declared.Refusal.{Refusal}
-use Rattle.sections.specs.declared.Why.the-variants.{Argument, Room, Record}
-use Rattle.base_format.specs.Parts.{dataAt, greatestIn}
 use Rattle.base_format.specs.Checks.{baseChecks, anyDataChecks}
 use Rattle.base_format.specs.Accepted.{baseFormat, anyDataFormat}
 use Rattle.base_format.proofs.Exact.{exact, any-exact}
@@ -25,45 +21,17 @@ use Rattle.cuts.specs.Records.{usableIn}
 use Rattle.calls.specs.Reasons.{by-file, no-cut, on-cut, by-argument, by-room, by-record}
 use Rattle.calls.specs.declared.RayAnswer.{RayAnswer}
 use Rattle.calls.specs.declared.RayAnswer.the-variants.{Written, Refused}
-use Rattle.calls.proofs.ByVerdict.{reason, by-reason, answers-exactly, ray-answers}
+use Rattle.calls.proofs.ByVerdict.{answers-exactly, ray-answers}
+use Rattle.calls.proofs.Judging.{refuses, never, not-le, ray-judges}
 use Rattle.records.specs.Records.{fromOn, fromAnswer, levelsFrom, marksFrom, valuesFrom, buildOn, buildAnswer, rowAfter}
 use Rattle.records.specs.Promises.{BuildPromise, LevelsFromPromise, ValuesFromPromise}
-use Rattle.records.specs.Reasons.{BuildFault, BuildReasons, FromFault, FromReasons}
-use Rattle.records.proofs.Answering.{from-none, from-short, from-not}
+use Rattle.records.specs.Reasons.{BuildReasons, FromReasons}
 use Rattle.indexed.proofs.Unfit.{unfit-not, not-unfit}
 
-module _ (s : List ℕ) (i ray room : ℕ) (rec : RayRecord) where
-  from-reason : (q : Refusal) → Refused q ≡ fromAnswer s i ray rec room → FromReasons s i ray room rec q
-  unfolding fromAnswer fromOn usableIn
-  from-reason q h =
-      reason anyDataChecks anyDataFormat any-exact s Refused (fromOn s ray rec room) i (FromFault s ray room rec) q (λ r e. cc e)
-      (λ c e. split c (ltb ray (raysIn s c)) (ltb room (binsIn s c)) (usableIn s c rec) refl refl refl e)
-      (sym h)
-    where
-      split : (c : Cut) (t u w : Bool) → ltb ray (raysIn s c) ≡ t → ltb room (binsIn s c) ≡ u → usableIn s c rec ≡ w
-          → cond t (cond u (Refused (refuse Room 0)) (cond w Written (Refused (refuse Record (c .section7))))) (Refused (refuse Argument 0)) ≡ Refused q
-          → FromFault s ray room rec c q
-      split c false u w a b d e = let same : refuse Argument 0 ≡ q = cc e in rw (sym same) (by-argument (ltb-false _ _ a))
-      split c true true w a b d e =
-          let same : refuse Room 0 ≡ q = cc e in
-          let in-rays : ray < raysIn s c = ltb-true _ _ a in
-          rw (sym same) (by-room (λ x. omega arith) (ltb-true _ _ b))
-      split c true false false a b d e =
-          let same : refuse Record (c .section7) ≡ q = cc e in
-          let in-rays : ray < raysIn s c = ltb-true _ _ a in
-          let fits : binsIn s c ≤ room = ltb-false _ _ b in
-          rw (sym same) (by-record (λ x. omega arith) (λ x. omega arith) (not-unfit _ _ _ rec d))
-      split c true false true a b d e = let z : _≡_ {A = ℕ} 0 1 = cc e in absurd (omega arith)
-
-  from-fault : (c : Cut) (r : Refusal) → FromFault s ray room rec c r → fromOn s ray rec room c ≡ Refused r
-  unfolding usableIn
-  from-fault c r (by-argument w) = sym (from-none s c _ _ refl refl ray rec room w)
-  from-fault c r (by-room right short) = sym (from-short s c _ _ refl refl ray rec room (omega (arith, right)) short)
-  from-fault c r (by-record right fits u) = sym (from-not s c _ _ refl refl ray rec _ refl room (omega (arith, right)) (omega (arith, fits)) (unfit-not _ _ _ rec u))
-
-  reason-from : (q : Refusal) → FromReasons s i ray room rec q → fromAnswer s i ray rec room ≡ Refused q
-  unfolding fromAnswer
-  reason-from q h = by-reason anyDataChecks anyDataFormat any-exact s Refused (fromOn s ray rec room) i (FromFault s ray room rec) q from-fault h
+from-refuses : (s : List ℕ) (i ray room : ℕ) (rec : RayRecord) (q : Refusal) → (fromAnswer s i ray rec room ≡ Refused q) ↔ FromReasons s i ray room rec q
+unfolding fromAnswer fromOn usableIn
+from-refuses s i ray room rec =
+    refuses anyDataChecks anyDataFormat any-exact s i (λ c. ray-judges s ray room c (usableIn s c rec) (not-unfit _ _ _ rec, unfit-not _ _ _ rec))
 
 -- ── ray levels by a record ──
 
@@ -71,22 +39,22 @@ module _ (s : List ℕ) (i ray : ℕ) (rec : RayRecord) where
   pub levels-from-refused : (q : Refusal) (out out′ : List ℕ) → LevelsFromPromise s i ray rec out (Refused q) out′
       → FromReasons s i ray (length out) rec q × (out′ ≡ out)
   unfolding levelsFrom
-  levels-from-refused q out out′ p = (from-reason s i ray (length out) rec q (p .answer), p .after)
+  levels-from-refused q out out′ p = (from-refuses s i ray (length out) rec q .0 (sym (p .answer)), p .after)
 
   pub refused-levels-from : (q : Refusal) (out out′ : List ℕ) (r : RayAnswer) → FromReasons s i ray (length out) rec q
       → LevelsFromPromise s i ray rec out r out′ → r ≡ Refused q
-  refused-levels-from q out out′ r k p = p .answer ∙ reason-from s i ray (length out) rec q k
+  refused-levels-from q out out′ r k p = p .answer ∙ from-refuses s i ray (length out) rec q .1 k
 
   -- ── ray values by a record; of the two rooms the smaller counts ──
 
   pub values-from-refused : (q : Refusal) (marks marks′ : List ℕ) (values values′ : List ℤ) → ValuesFromPromise s i ray rec marks values (Refused q) marks′ values′
       → FromReasons s i ray (min (length marks) (length values)) rec q × (marks′ ≡ marks) × (values′ ≡ values)
   unfolding marksFrom valuesFrom
-  values-from-refused q marks marks′ values values′ p = (from-reason s i ray (min (length marks) (length values)) rec q (p .answer), p .marked, p .valued)
+  values-from-refused q marks marks′ values values′ p = (from-refuses s i ray (min (length marks) (length values)) rec q .0 (sym (p .answer)), p .marked, p .valued)
 
   pub refused-values-from : (q : Refusal) (marks marks′ : List ℕ) (values values′ : List ℤ) (r : RayAnswer)
       → FromReasons s i ray (min (length marks) (length values)) rec q → ValuesFromPromise s i ray rec marks values r marks′ values′ → r ≡ Refused q
-  refused-values-from q marks marks′ values values′ r k p = p .answer ∙ reason-from s i ray (min (length marks) (length values)) rec q k
+  refused-values-from q marks marks′ values values′ r k p = p .answer ∙ from-refuses s i ray (min (length marks) (length values)) rec q .1 k
 
   -- "every file check but 8"
   pub from-never-8 : (room : ℕ) (q : Refusal) → FromReasons s i ray room rec q → eqb (numberOf (q .why)) 8 ≡ false
@@ -99,29 +67,19 @@ module _ (s : List ℕ) (i ray : ℕ) (rec : RayRecord) where
 
 -- ── building ──
 
+build-refuses : (s : List ℕ) (i room : ℕ) (q : Refusal) → (buildAnswer s i room ≡ Refused q) ↔ BuildReasons s i room q
+unfolding buildAnswer buildOn
+build-refuses s i room =
+    refuses baseChecks baseFormat exact s i
+    (λ c. record { wrong = never; short = not-le (raysIn s c) room; unfit = never; answers = λ q e. let z : _≡_ {A = ℕ} 0 1 = cc e in omega arith; same = λ p q e. cc e })
+
 module _ (s : List ℕ) (i : ℕ) (q : Refusal) (row row′ : List RayRecord) where
   pub build-refused : BuildPromise s i row (Refused q) row′ → BuildReasons s i (length row) q × (row′ ≡ row)
-  unfolding buildAnswer buildOn rowAfter
-  build-refused p = (
-    reason baseChecks baseFormat exact s Refused (buildOn s (length row)) i (BuildFault s (length row)) q (λ r e. cc e)
-        (λ c e. split c (ltb (length row) (raysIn s c)) refl e)
-        (sym (p .answer)),
-    p .after,
-  )
-    where
-      split : (c : Cut) (t : Bool) → ltb (length row) (raysIn s c) ≡ t → cond t (Refused (refuse Room 0)) Written ≡ Refused q → BuildFault s (length row) c q
-      split c true a e = let same : refuse Room 0 ≡ q = cc e in rw (sym same) (by-room (λ w. w) (ltb-true _ _ a))
-      split c false a e = let z : _≡_ {A = ℕ} 0 1 = cc e in absurd (omega arith)
+  unfolding rowAfter
+  build-refused p = (build-refuses s i (length row) q .0 (sym (p .answer)), p .after)
 
-build-fault : (s : List ℕ) (room : ℕ) (c : Cut) (r : Refusal) → BuildFault s room c r → buildOn s room c ≡ Refused r
-unfolding buildOn
-build-fault s room c r (by-argument w) = absurd w
-build-fault s room c r (by-room right short) = rw (lt-ltb room (raysIn s c) short)
-build-fault s room c r (by-record right fits w) = absurd w
-
-pub refused-build : (s : List ℕ) (i : ℕ) (q : Refusal) (row row′ : List RayRecord) (r : RayAnswer) → BuildReasons s i (length row) q → BuildPromise s i row r row′ → r ≡ Refused q
-unfolding buildAnswer
-refused-build s i q row row′ r h p = p .answer ∙ by-reason baseChecks baseFormat exact s Refused (buildOn s (length row)) i (BuildFault s (length row)) q (build-fault s (length row)) h
+  pub refused-build : (r : RayAnswer) → BuildReasons s i (length row) q → BuildPromise s i row r row′ → r ≡ Refused q
+  refused-build r h p = p .answer ∙ build-refuses s i (length row) q .1 h
 
 -- ── and each answers exactly where no reason to refuse holds ──
 

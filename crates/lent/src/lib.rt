@@ -2,11 +2,18 @@
 // big-endian numbers of two, four and eight octets, which answer the place past what they put; and one octet or number over a row of places. Below it stands `octets`, which says how a
 // number is written; above it stands whatever writes to lent memory.
 ghost use mathlib.Core.Path.{_≡_};
-ghost use Prim.Native.Nat.{_+_, _-_, _≤_};
+ghost use Prim.Native.Nat.{_+_, _-_, _≤_, min};
 ghost use lib.ListN.{length, replicate};
 ghost use Rattle.octets.specs.Octets.{inOctets};
 ghost use Rattle.lent.specs.Lent.{placed};
 ghost use Rattle.lent.specs.Put.{Put};
+
+// The smaller of two rooms.
+pub fn least(a: usize, b: usize) -> usize
+    ensures { λ r. ⌜ r ≡ min a b ⌝ }
+{
+    if a < b { a } else { b }
+}
 
 // Octets as they are.
 pub fn put_octets(out: &mut [u8], at: usize, s: &[u8]) -> usize

@@ -13,6 +13,9 @@ ghost use Rattle.lines.specs.Rooms.{entryRoom, lineRoom};
 ghost use Rattle.lines.specs.Text.{decimal, kindText, newline, entryLine, entryLines, headLine, refusedLine, endLine};
 ghost use Rattle.lines.specs.Words.{entryIn, entriesIn};
 
+// How many octets the line of an entry may take.
+pub const ENTRY_ROOM: usize = 82;
+
 fn as_usize(x: u32) -> usize
     ensures { λ r. ⌜ r ≡ x ⌝ }
 {

@@ -1,7 +1,7 @@
 pub mod AllCuts
 pub mod Portion
-pub mod Turning
+pub mod Texts
 pub mod Moving
 pub mod Starting
-pub mod Going
+pub mod Steps
 pub mod Pages

@@ -10,11 +10,11 @@ use Rattle.lent.proofs.Lent.{placed-front, length-front}
 use Rattle.lines.specs.Text.{entryLines, endLine}
 use Rattle.lines.proofs.Lines.{refused-some, end-some}
 use Rattle.listing.specs.Listing.{headOf, textOf, cutLines, entryCount}
-use Rattle.listing.specs.Progress.{cutsIn, listOf, textAt, turnText, textFrom, finished, Sound, Goes, Paged, Pages, none, more}
-use Rattle.listing.specs.declared.Turn.{Turn}
+use Rattle.listing.specs.Progress.{cutsIn, listOf, textAt, partText, textFrom, finished, Sound, StepTo, Paged, Pages, none, more}
+use Rattle.listing.specs.declared.CutPart.{CutPart}
 use Rattle.listing.specs.declared.Progress.{Progress}
-use Rattle.listing.specs.declared.Progress.the-variants.{Refused, Head, Fill, Show, End, Finished}
-use Rattle.listing.specs.declared.Stepped.{Stepped}
+use Rattle.listing.specs.declared.Progress.the-variants.{Refused, Head, ToList, ToWrite, End, Finished}
+use Rattle.listing.specs.declared.AfterStep.{AfterStep}
 use Rattle.listing.specs.declared.Written.{Written}
 
 -- ---- something is to come, unless the writing is finished
@@ -27,27 +27,27 @@ at-some s i n =
     let sum : ℕ = n + entryCount s (drop i (cutsIn s)) in
     omega (arith, length-append (cutLines s i (drop i (cutsIn s))) (endLine sum), end-some sum)
 
-turn-some : (s : List ℕ) (t : Turn) (k : ℕ) → 0 < length (turnText s t k)
-unfolding turnText
-turn-some s t k =
-    let rest : List ℕ = textAt s (suc (t .number)) (t .total + length (listOf s t)) in
-    omega (arith, length-append (entryLines (drop k (listOf s t))) rest, at-some s (suc (t .number)) (t .total + length (listOf s t)))
+part-some : (s : List ℕ) (part : CutPart) (k : ℕ) → 0 < length (partText s part k)
+unfolding partText
+part-some s part k =
+    let rest : List ℕ = textAt s (suc (part .number)) (part .total + length (listOf s part)) in
+    omega (arith, length-append (entryLines (drop k (listOf s part))) rest, at-some s (suc (part .number)) (part .total + length (listOf s part)))
 
 pub text-some : (s : List ℕ) (p : Progress) → finished p ≡ false → 0 < length (textFrom s p)
 unfolding textFrom
 text-some s (Refused r) h = refused-some _ _
-text-some s (Head t) h = omega (arith, length-append (headOf s (t .number) (t .cut)) (turnText s t 0), turn-some s t 0)
-text-some s (Fill t) h = turn-some s t 0
-text-some s (Show t l k) h = turn-some s t k
+text-some s (Head part) h = omega (arith, length-append (headOf s (part .number) (part .cut)) (partText s part 0), part-some s part 0)
+text-some s (ToList part) h = part-some s part 0
+text-some s (ToWrite part l k) h = part-some s part k
 text-some s (End n) h = end-some n
 text-some s Finished h = absurd (never (sym h))
 
 pub text-none : (s : List ℕ) (p : Progress) → finished p ≡ true → textFrom s p ≡ []
 unfolding textFrom
 text-none s (Refused r) h = absurd (never h)
-text-none s (Head t) h = absurd (never h)
-text-none s (Fill t) h = absurd (never h)
-text-none s (Show t l k) h = absurd (never h)
+text-none s (Head part) h = absurd (never h)
+text-none s (ToList part) h = absurd (never h)
+text-none s (ToWrite part l k) h = absurd (never h)
 text-none s (End n) h = absurd (never h)
 text-none s Finished h = refl
 
@@ -68,8 +68,8 @@ page-some s ws d e p r x last first =
 pub page-less : (s ws d e : List ℕ) (p : Progress) (r : Written) → Paged s ws d p e r → 0 < r .len → length (textFrom s (r .next)) < length (textFrom s p)
 page-less s ws d e p r x some = omega (arith, ap length (x .comes) ∙ length-append (x .octets) (textFrom s (r .next)), x .size)
 
-pub page-more : (s ws w d e f : List ℕ) (p q : Progress) (at : ℕ) (r : Stepped)
-    → Paged s ws d p e (record { len = at; next = q }) → Goes s w e q at f r → Paged s w d p f (record { len = r .at; next = r .next })
+pub page-more : (s ws w d e f : List ℕ) (p q : Progress) (at : ℕ) (r : AfterStep)
+    → Paged s ws d p e (record { len = at; next = q }) → StepTo s w e q at f r → Paged s w d p f (record { len = r .at; next = r .next })
 page-more s ws w d e f p q at r x y =
     let P : List ℕ = x .octets in
     let put = y .put in

@@ -16,12 +16,12 @@ use Rattle.walks.specs.declared.Found.{Found}
 use Rattle.walks.specs.declared.Walked.the-variants as W
 use Rattle.lines.specs.Text.{refusedLine, endLine}
 use Rattle.listing.specs.Listing.{cutLines, entryCount, verdictText, textOf}
-use Rattle.listing.specs.Progress.{cutsBy, cutsIn, cutBegun, textAt, turnText, textFrom, Sound}
-use Rattle.listing.specs.declared.Turn.{Turn}
+use Rattle.listing.specs.Progress.{cutsBy, cutsIn, cutBegun, textAt, partText, textFrom, Sound}
+use Rattle.listing.specs.declared.CutPart.{CutPart}
 use Rattle.listing.specs.declared.Progress.the-variants.{Refused, Head}
 use Rattle.listing.proofs.AllCuts.{some-cut}
-use Rattle.listing.proofs.Moving.{on-first}
-use Rattle.listing.proofs.Turning.{one-cut}
+use Rattle.listing.proofs.Moving.{at-first}
+use Rattle.listing.proofs.Texts.{one-cut}
 
 pub too-long : (s : List ℕ) → 65536 < length s → textFrom s (Refused (record { why = FileSize; place = 0 })) ≡ textOf s
 unfolding textFrom textOf
@@ -43,10 +43,10 @@ from-first : (s : List ℕ) → textAt s 0 0 ≡ cutLines s 0 (cutsIn s) ++ endL
 unfolding textAt
 from-first s = let sum : 0 + entryCount s (cutsIn s) ≡ entryCount s (cutsIn s) = omega arith in ap (λ (n : ℕ). cutLines s 0 (cutsIn s) ++ endLine n) sum
 
-pub head-first : (s : List ℕ) (f : Found) (t : Turn) → t ≡ cutBegun 0 (f .cuts) (f .cut) 0 → length s ≤ 65536 → answerFor 0 (verdict s) ≡ W.Accepted f
-    → (textFrom s (Head t) ≡ textOf s) × ((ws : List ℕ) → Sound s ws (Head t))
-unfolding textFrom turnText verdictText answerFor Sound
-head-first s f t begun h e = rw begun (go (verdict s) refl e)
+pub head-first : (s : List ℕ) (f : Found) (part : CutPart) → part ≡ cutBegun 0 (f .cuts) (f .cut) 0 → length s ≤ 65536 → answerFor 0 (verdict s) ≡ W.Accepted f
+    → (textFrom s (Head part) ≡ textOf s) × ((ws : List ℕ) → Sound s ws (Head part))
+unfolding textFrom partText verdictText answerFor Sound
+head-first s f part begun h e = rw begun (go (verdict s) refl e)
   where
     go : (v : Verdict) → verdict s ≡ v → answerFor 0 v ≡ W.Accepted f → (textFrom s (Head (cutBegun 0 (f .cuts) (f .cut) 0)) ≡ textOf s) × ((ws : List ℕ) → Sound s ws (Head (cutBegun 0 (f .cuts) (f .cut) 0)))
     go (refused r) u e = let z : _≡_ {A = ℕ} 0 1 = cc in absurd (omega arith)
@@ -56,4 +56,4 @@ head-first s f t begun h e = rw begun (go (verdict s) refl e)
         let some : 0 < length (cutsIn s) = omega (arith, some-cut s cs u, ap length all) in
         let count : f .cuts ≡ length (cutsIn s) = ap (λ (x : Found). x .cuts) found ∙ ap length all in
         let is : f .cut ≡ getD (cutsIn s) 0 noCut = ap (λ (x : Found). x .cut) found ∙ ap (λ (l : List Cut). getD l 0 noCut) all in
-        (sym (one-cut s 0 0 some (f .cut) is) ∙ from-first s ∙ (λ i. cutLines s 0 (sym all i) ++ endLine (entryCount s (sym all i))) ∙ ap (verdictText s) (sym u) ∙ sym (text-is s h), λ ws. on-first s 0 0 (f .cuts) (f .cut) some count is (omega arith))
+        (sym (one-cut s 0 0 some (f .cut) is) ∙ from-first s ∙ (λ i. cutLines s 0 (sym all i) ++ endLine (entryCount s (sym all i))) ∙ ap (verdictText s) (sym u) ∙ sym (text-is s h), λ ws. at-first s 0 0 (f .cuts) (f .cut) some count is (omega arith))

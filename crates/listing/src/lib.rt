@@ -10,22 +10,25 @@ use walks::Walked;
 ghost use mathlib.Core.Path.{_≡_};
 ghost use mathlib.Core.Bool.{false};
 ghost use mathlib.Core.List.{List};
-ghost use Prim.Native.Nat.{ℕ, _+_, _≤_, _<_, min};
+ghost use Prim.Native.Nat.{ℕ, _+_, _≤_, _<_};
 ghost use lib.ListN.{length};
 ghost use Rattle.sections.specs.Refusal.{numberOf};
 ghost use Rattle.stretches.specs.Stretch.{perEntry};
 ghost use Rattle.lent.specs.Put.{Put};
 ghost use Rattle.lines.specs.Rooms.{lineRoom};
 ghost use Rattle.listing.specs.Listing.{headOf, textOf};
-ghost use Rattle.listing.specs.Progress.{stepRoom, cutBegun, textFrom, turnText, finished, rank, On, Listed, Held, Sound, Reaches, Goes, Paged};
+ghost use Rattle.listing.specs.Progress.{stepRoom, cutBegun, textFrom, partText, finished, rank, AtCut, Listed, InWords, Sound, ToCome, StepTo, Paged};
+
+// How many octets a file may have that is listed.
+pub const LARGEST: usize = 65536;
 
 // How many lines of entries a step writes at most, and how much room it asks.
 const LINES: usize = 256;
 
-const ROOM: usize = 20992;
+const ROOM: usize = LINES * lines::ENTRY_ROOM;
 
-// A cut, the point from which its entries are to come, and how many entries came before.
-pub struct Turn {
+// Part of a cut: the cut, the point from which its entries are to come, and how many entries came before.
+pub struct CutPart {
     pub number: usize,
     pub cuts: usize,
     pub cut: Cut,
@@ -39,17 +42,18 @@ pub enum Progress {
     // the line of a refusal is all there is
     Refused(Refusal),
     // the first line of a cut
-    Head(Turn),
+    Head(CutPart),
     // entries, which are to be listed into the words
-    Fill(Turn),
+    ToList(CutPart),
     // entries that the words hold, of which so many were written
-    Show(Turn, Listing, usize),
+    ToWrite(CutPart, Listing, usize),
     // the last line
     End(usize),
     Finished,
 }
 
-struct Stepped {
+// Where the octets written so far end, and where the writing then stands.
+struct AfterStep {
     at: usize,
     next: Progress,
 }
@@ -67,17 +71,11 @@ fn number_of(refusal: Refusal) -> usize
     sections::number_of(why) as usize
 }
 
-fn least(a: usize, b: usize) -> usize
-    ensures { λ r. ⌜ r ≡ min a b ⌝ }
-{
-    if a < b { a } else { b }
-}
-
-// A turn at the beginning of a cut.
-fn cut_begun(number: usize, cuts: usize, cut: Cut, total: usize) -> Turn
+// A cut from its beginning on.
+fn cut_begun(number: usize, cuts: usize, cut: Cut, total: usize) -> CutPart
     ensures { λ r. ⌜ r ≡ cutBegun number cuts cut total ⌝ }
 {
-    Turn {
+    CutPart {
         number,
         cuts,
         cut,
@@ -92,7 +90,7 @@ pub fn start(file: &[u8]) -> Progress
     ensures { λ r. ⌜ textFrom (now (file .entry)) r ≡ textOf (now (file .entry)) ⌝ }
     ensures { λ r. ⌜ ((ws : List ℕ) → Sound (now (file .entry)) ws r) ⌝ }
 {
-    if 65536 < file.len() {
+    if LARGEST < file.len() {
         return Progress::Refused(Refusal {
             why: Why::FileSize,
             place: 0,
@@ -118,18 +116,18 @@ pub fn is_finished(p: Progress) -> bool
     }
 }
 
-fn put_first_line(file: &[u8], t: Turn, text: &mut [u8], at: usize) -> usize
+fn put_first_line(file: &[u8], part: CutPart, text: &mut [u8], at: usize) -> usize
     requires { ⌜ at + lineRoom ≤ length (now text) ⌝ }
-    ensures { λ r. ⌜ Put (now (text .entry)) at (headOf (now (file .entry)) (t .number) (t .cut)) (now (text .exit)) r ⌝ }
+    ensures { λ r. ⌜ Put (now (text .entry)) at (headOf (now (file .entry)) (part .number) (part .cut)) (now (text .exit)) r ⌝ }
 {
-    let cut = t.cut;
+    let cut = part.cut;
     let product = base_format::product_number(base_format::product_in(file, cut)) as usize;
     let bins = sections::bins_in(file, cut);
     let rays = sections::rays_in(file, cut);
     lines::put_head(
         text,
         at,
-        t.number,
+        part.number,
         product,
         bins,
         rays,
@@ -138,101 +136,109 @@ fn put_first_line(file: &[u8], t: Turn, text: &mut [u8], at: usize) -> usize
 }
 
 // Past the entries of a listing: more of the same cut, the next cut, or the end.
-fn moved_on(file: &[u8], t: Turn, l: Listing) -> Progress
-    requires { ⌜ Listed (now file) t l ⌝ }
-    ensures { λ r. ⌜ ((ws : List ℕ) → Reaches (now (file .entry)) ws (turnText (now (file .entry)) t (l .count)) r) ⌝ }
+fn moved_on(file: &[u8], part: CutPart, l: Listing) -> Progress
+    requires { ⌜ Listed (now file) part l ⌝ }
+    ensures { λ r. ⌜ ((ws : List ℕ) → ToCome (now (file .entry)) ws (partText (now (file .entry)) part (l .count)) r) ⌝ }
 {
-    let cut = t.cut;
-    let total = t.total + l.count;
+    let cut = part.cut;
+    let total = part.total + l.count;
     if l.ray < sections::rays_in(file, cut) {
-        return Progress::Fill(Turn {
-            number: t.number,
-            cuts: t.cuts,
+        return Progress::ToList(CutPart {
+            number: part.number,
+            cuts: part.cuts,
             cut,
             ray: l.ray,
             bin: l.bin,
             total,
         });
     }
-    let number = t.number + 1;
-    if number < t.cuts {
+    let number = part.number + 1;
+    if number < part.cuts {
         let cut = cuts::next_cut(file, cut);
-        return Progress::Head(cut_begun(number, t.cuts, cut, total));
+        return Progress::Head(cut_begun(number, part.cuts, cut, total));
     }
     Progress::End(total)
 }
 
-// The entries of a turn, listed into the words.
-fn fill(file: &[u8], t: Turn, words: &mut [u32]) -> Progress
-    requires { ⌜ (On (now file) t) × (perEntry ≤ length (now words)) ⌝ }
-    ensures { λ r. ⌜ Reaches (now (file .entry)) (now (words .exit)) (turnText (now (file .entry)) t 0) r ⌝ }
+// The entries of a part, listed into the words.
+fn list_part(file: &[u8], part: CutPart, words: &mut [u32]) -> Progress
+    requires { ⌜ (AtCut (now file) part) × (perEntry ≤ length (now words)) ⌝ }
+    ensures { λ r. ⌜ ToCome (now (file .entry)) (now (words .exit)) (partText (now (file .entry)) part 0) r ⌝ }
     ensures { λ r. ⌜ rank r ≡ 0 ⌝ }
 {
-    let cut = t.cut;
-    let listing = cuts::list_into(file, cut, stretches::HOUSE, t.ray, t.bin, words);
-    Progress::Show(t, listing, 0)
+    let cut = part.cut;
+    let listing = cuts::list_into(file, cut, stretches::HOUSE, part.ray, part.bin, words);
+    Progress::ToWrite(part, listing, 0)
 }
 
 // Some more lines of the entries that the words hold.
-fn show(
+fn put_more_lines(
     file: &[u8],
-    t: Turn,
+    part: CutPart,
     l: Listing,
-    shown: usize,
+    written: usize,
     words: &[u32],
     text: &mut [u8],
     at: usize,
-) -> Stepped
-    requires { ⌜ Held (now file) (now words) t l shown ⌝ }
+) -> AfterStep
+    requires { ⌜ InWords (now file) (now words) part l written ⌝ }
     requires { ⌜ at + stepRoom ≤ length (now text) ⌝ }
-    ensures { λ r. ⌜ Goes (now (file .entry)) (now (words .entry)) (now (text .entry)) (Progress.Show t l shown) at (now (text .exit)) r ⌝ }
+    ensures { λ r. ⌜ StepTo (now (file .entry)) (now (words .entry)) (now (text .entry)) (Progress.ToWrite part l written) at (now (text .exit)) r ⌝ }
 {
-    let n = least(l.count - shown, LINES);
-    let to = lines::put_entries(text, at, words, shown, n);
-    if shown + n < l.count {
-        return Stepped {
+    let n = lent::least(l.count - written, LINES);
+    let to = lines::put_entries(text, at, words, written, n);
+    if written + n < l.count {
+        return AfterStep {
             at: to,
-            next: Progress::Show(t, l, shown + n),
+            next: Progress::ToWrite(part, l, written + n),
         };
     }
-    let next = moved_on(file, t, l);
-    Stepped { at: to, next }
+    let next = moved_on(file, part, l);
+    AfterStep { at: to, next }
 }
 
 // One step: a line, some lines, or a listing.
-fn step(file: &[u8], p: Progress, words: &mut [u32], text: &mut [u8], at: usize) -> Stepped
+fn step(file: &[u8], p: Progress, words: &mut [u32], text: &mut [u8], at: usize) -> AfterStep
     requires { ⌜ Sound (now file) (now words) p ⌝ }
     requires { ⌜ (perEntry ≤ length (now words)) × (at + stepRoom ≤ length (now text)) ⌝ }
-    ensures { λ r. ⌜ Goes (now (file .entry)) (now (words .exit)) (now (text .entry)) p at (now (text .exit)) r ⌝ }
+    ensures { λ r. ⌜ StepTo (now (file .entry)) (now (words .exit)) (now (text .entry)) p at (now (text .exit)) r ⌝ }
 {
     match p {
         Progress::Refused(refusal) => {
             let to = lines::put_refused(text, at, number_of(refusal), refusal.place);
-            Stepped {
+            AfterStep {
                 at: to,
                 next: Progress::Finished,
             }
         }
-        Progress::Head(t) => {
-            let to = put_first_line(file, t, text, at);
-            Stepped {
+        Progress::Head(part) => {
+            let to = put_first_line(file, part, text, at);
+            AfterStep {
                 at: to,
-                next: Progress::Fill(t),
+                next: Progress::ToList(part),
             }
         }
-        Progress::Fill(t) => {
-            let next = fill(file, t, words);
-            Stepped { at, next }
+        Progress::ToList(part) => {
+            let next = list_part(file, part, words);
+            AfterStep { at, next }
         }
-        Progress::Show(t, l, shown) => show(file, t, l, shown, words, text, at),
+        Progress::ToWrite(part, l, written) => put_more_lines(
+            file,
+            part,
+            l,
+            written,
+            words,
+            text,
+            at,
+        ),
         Progress::End(total) => {
             let to = lines::put_end(text, at, total);
-            Stepped {
+            AfterStep {
                 at: to,
                 next: Progress::Finished,
             }
         }
-        Progress::Finished => Stepped {
+        Progress::Finished => AfterStep {
             at,
             next: Progress::Finished,
         },

@@ -1,9 +1,9 @@
 -- A cut of each of two accepted files, with the same octets: every call answers the same of both, and leaves the same in lent memory.
 use Prim.Native.Nat.{ℕ, _+_, _*_, _<_}
 use mathlib.Core.Path.{_≡_, sym, _∙_, ap}
-use mathlib.Core.List.{List, []}
-use mathlib.Core.Bool.{cond, _&&_}
-use lib.Dec.{ltb}
+use mathlib.Core.List.{List}
+use mathlib.Core.Bool.{true, _&&_}
+use lib.Dec.{ltb, leb}
 use lib.ListN.{length, getD, take, drop}
 use lib.IntN.{ℤ}
 use Rattle.rules.specs.Rules.{field}
@@ -23,7 +23,7 @@ use Rattle.base_format.proofs.Exact.{exact}
 use Rattle.stretches.specs.Stretch.{perEntry}
 use Rattle.stretches.specs.Call.{rightT, rightPoint, answerOf, outOf}
 use Rattle.cuts.specs.Bins.{binsFrom, rayIn, stretchesIn}
-use Rattle.calls.specs.Cuts.{onCut, cutAt, cutIn, ifWritten}
+use Rattle.calls.specs.Cuts.{onCut, judged, cutAt, cutIn, ifWritten}
 use Rattle.polar.specs.Opening.{elevationOf, infoOf, cutAnswer}
 use Rattle.polar.specs.Rays.{rayOn, rayAnswer, levelsAfter, marksAfter, valuesAfter, binOf, binOn, binAnswer}
 use Rattle.polar.specs.Stretching.{stretchesOn, stretchAnswer, ifListed, wordsAfter}
@@ -33,12 +33,10 @@ use Rattle.calls.specs.declared.RayAnswer.the-variants as R
 use Rattle.calls.specs.declared.BinAnswer.the-variants as B
 use Rattle.polar.specs.declared.StretchAnswer.{StretchAnswer}
 use Rattle.polar.specs.declared.StretchAnswer.the-variants as S
-use Rattle.sections.specs.Refusal.{refuse}
-use Rattle.sections.specs.declared.Why.the-variants.{Argument, Room}
 use Rattle.calls.proofs.ByVerdict.{cut-accepted}
 use Rattle.files.specs.File.{Parts, partsAt}
-use Rattle.moved.specs.Told.{productBy, levelsBy, stretchesBy}
-use Rattle.moved.proofs.Told.{Told, told-at}
+use Rattle.moved.specs.ByOctets.{productBy, levelsBy, stretchesBy}
+use Rattle.moved.proofs.ByOctets.{ByOctets, by-octets}
 
 -- cut i of one file and cut j of another: every call answers the same
 pub record SameCalls (s : List ℕ) (i : ℕ) (t : List ℕ) (j : ℕ) : Type 0 where
@@ -52,7 +50,7 @@ pub record SameCalls (s : List ℕ) (i : ℕ) (t : List ℕ) (j : ℕ) : Type 0 
   pub words : (a : StretchAnswer) (x : ℤ) (ray bin : ℕ) (out : List ℕ) → wordsAfter a s i x ray bin out ≡ wordsAfter a t j x ray bin out
 
 -- two cuts of which all is said alike
-module _ (s t : List ℕ) (c d : Cut) (p q : Parts) (m : Told s c p) (n : Told t d q) (e : p ≡ q) where
+module _ (s t : List ℕ) (c d : Cut) (p q : Parts) (m : ByOctets s c p) (n : ByOctets t d q) (e : p ≡ q) where
   bins : binsIn s c ≡ binsIn t d
   bins = m .bins ∙ ap (λ (x : Parts). binsAt (x .three) 0) e ∙ sym (n .bins)
 
@@ -73,9 +71,9 @@ module _ (s t : List ℕ) (c d : Cut) (p q : Parts) (m : Told s c p) (n : Told t
   info =
       let grid = m .grid ∙ ap (λ (x : Parts). gridAt (x .three) 0) e ∙ sym (n .grid) in
       let azimuth = m .azimuth ∙ ap (λ (x : Parts). field (x .three) 0 40 2) e ∙ sym (n .azimuth) in
-      let octet = m .octet38 ∙ ap (λ (x : Parts). field (x .four) 0 38 1) e ∙ sym (n .octet38) in
+      let mode = m .mode ∙ ap (λ (x : Parts). field (x .four) 0 38 1) e ∙ sym (n .mode) in
       let up = m .elevation ∙ ap (λ (x : Parts). field (x .four) 0 42 2) e ∙ sym (n .elevation) in
-      (λ i. record { grid = grid i; «start_azimuth» = azimuth i; octet38 = octet i; elevation = elevationOf (up i) })
+      (λ i. record { grid = grid i; «start_azimuth» = azimuth i; mode = mode i; elevation = elevationOf (up i) })
 
   ray-in : (ray : ℕ) → rayIn s c ray ≡ rayIn t d ray
   unfolding rayIn binsFrom
@@ -83,21 +81,17 @@ module _ (s t : List ℕ) (c d : Cut) (p q : Parts) (m : Told s c p) (n : Told t
 
   ray-on : (ray room : ℕ) → rayOn s ray room c ≡ rayOn t ray room d
   unfolding rayOn
-  ray-on ray room = (λ i. cond (ltb ray (rays i)) (cond (ltb room (bins i)) (R.Refused (refuse Room 0)) R.Written) (R.Refused (refuse Argument 0)))
+  ray-on ray room = (λ i. judged R.Refused c (ltb ray (rays i)) (leb (bins i) room) true R.Written)
 
   bin-on : (ray bin : ℕ) → binOn s ray bin c ≡ binOn t ray bin d
   unfolding binOn levelIn
   bin-on ray bin =
-      (λ i.
-      cond (ltb ray (rays i) && ltb bin (bins i)) (binOf (readingOf (product i) (getD (levels i) (ray * bins i + bin) 0))) (B.Refused (refuse Argument 0)))
+      (λ i. judged B.Refused c (ltb ray (rays i) && ltb bin (bins i)) true true (binOf (readingOf (product i) (getD (levels i) (ray * bins i + bin) 0))))
 
   stretches-on : (x : ℤ) (ray bin room : ℕ) → stretchesOn s x ray bin room c ≡ stretchesOn t x ray bin room d
   unfolding stretchesOn
   stretches-on x ray bin room =
-      (λ i.
-      cond (rightT x && rightPoint (bins i) (rays i) ray bin)
-      (cond (ltb room perEntry) (S.Refused (refuse Room 0)) (S.Listed (answerOf (rays i) room (stretches x ray bin i))))
-      (S.Refused (refuse Argument 0)))
+      (λ i. judged S.Refused c (rightT x && rightPoint (bins i) (rays i) ray bin) (leb perEntry room) true (S.Listed (answerOf (rays i) room (stretches x ray bin i))))
 
 module _ (s : List ℕ) (cs : List Cut) (a : Accepted s cs) (i : ℕ) (lt : i < length cs) where
   cut-is : cutIn s i ≡ getD cs i noCut
@@ -115,8 +109,8 @@ same-calls s t cs ds a b i j lt lu e =
     let d = getD ds j noCut in
     let p = partsAt s c in
     let q = partsAt t d in
-    let m = told-at s cs a i lt in
-    let n = told-at t ds b j lu in
+    let m = by-octets s cs a i lt in
+    let n = by-octets t ds b j lu in
     let x = cut-is s cs a i lt in
     let y = cut-is t ds b j lu in
     let product-of : productIn s (cutIn s i) ≡ productIn t (cutIn t j) = ap (productIn s) x ∙ product s t c d p q m n e ∙ sym (ap (productIn t) y) in

@@ -32,8 +32,8 @@ use Rattle.dualpol.specs.declared.DualOpened.the-variants as O
 use Rattle.dualpol.specs.declared.DualCut.the-variants as C
 use Rattle.files.specs.File.{Parts, partsAt}
 use Rattle.files.proofs.Each.{four-alike, time-alike}
-use Rattle.moved.specs.DualTold.{toldBy}
-use Rattle.moved.proofs.DualTold.{DualTold, dual-told-at}
+use Rattle.moved.specs.DualByOctets.{toldBy}
+use Rattle.moved.proofs.DualByOctets.{DualByOctets, dual-by-octets}
 
 -- cut i of one file and cut j of another: every call on a cut answers the same
 pub record SameDualCalls (s : List ℕ) (i : ℕ) (t : List ℕ) (j : ℕ) : Type 0 where
@@ -48,7 +48,7 @@ guarded false x y z f = refl
 binBy : Parts → ℕ → ℕ → BinAnswer
 binBy p ray bin = cond (ltb ray (raysAt (p .three) 0) && ltb bin (binsAt (p .three) 0)) (binOf (toldBy p ray bin)) (B.Refused (refuse Argument 0))
 
-bin-by : (s : List ℕ) (c : Cut) (p : Parts) → DualTold s c p → (ray bin : ℕ) → binOn s ray bin c ≡ binBy p ray bin
+bin-by : (s : List ℕ) (c : Cut) (p : Parts) → DualByOctets s c p → (ray bin : ℕ) → binOn s ray bin c ≡ binBy p ray bin
 unfolding binOn binBy
 bin-by s c p m ray bin =
     guarded (ltb ray (raysIn s c) && ltb bin (binsIn s c)) _ _ _
@@ -65,8 +65,8 @@ pub same-dual-calls : (s t : List ℕ) (cs ds : List Cut) → Accepted s cs → 
     → partsAt s (getD cs i noCut) ≡ partsAt t (getD ds j noCut) → SameDualCalls s i t j
 unfolding cutAnswer binAnswer
 same-dual-calls s t cs ds a b i j lt lu e =
-    let m = dual-told-at s cs a i lt in
-    let n = dual-told-at t ds b j lu in
+    let m = dual-by-octets s cs a i lt in
+    let n = dual-by-octets t ds b j lu in
     let grid = m .grid ∙ ap (λ (p : Parts). gridAt (p .three) 0) e ∙ sym (n .grid) in
     record {
       cut = on-cut s cs a i lt _ _ ∙ ap C.Cut grid ∙ sym (on-cut t ds b j lu _ _);
@@ -83,8 +83,8 @@ pub same-dual-open : (s t : List ℕ) (cs ds : List Cut) → Accepted s cs → A
     → openAnswer t ≡ O.File (summaryOf s (length ds) (getD cs 0 noCut))
 unfolding openAnswer
 same-dual-open s t cs ds a b j some lt e one =
-    let m = dual-told-at t ds b 0 some in
-    let zero = dual-told-at s cs a 0 (omega arith) in
+    let m = dual-by-octets t ds b 0 some in
+    let zero = dual-by-octets s cs a 0 (omega arith) in
     let parameter =
     m .parameter ∙ ap (λ (p : Parts). parameterAt (p .four) 0) e
     ∙ four-alike dualFormat (λ o. parameterAt o 0) (λ x y z k. as-first x y z k .0) s cs a j 0 lt (omega arith) ∙ sym (zero .parameter) in

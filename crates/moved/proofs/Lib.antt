@@ -1,6 +1,6 @@
-pub mod Told
+pub mod ByOctets
 pub mod Calls
 pub mod Opened
 pub mod Wishes
-pub mod DualTold
+pub mod DualByOctets
 pub mod DualCalls

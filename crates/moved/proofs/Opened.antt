@@ -19,8 +19,8 @@ use Rattle.polar.specs.declared.Opened.the-variants as O
 use Rattle.calls.proofs.ByVerdict.{file-accepted}
 use Rattle.files.specs.File.{Parts, partsAt}
 use Rattle.files.proofs.Each.{four-alike, time-alike}
-use Rattle.moved.specs.Told.{productBy}
-use Rattle.moved.proofs.Told.{told-at}
+use Rattle.moved.specs.ByOctets.{productBy}
+use Rattle.moved.proofs.ByOctets.{by-octets}
 
 -- an accepted file with the section 1 of another, whose first cut stood in that other one, opens as that other one does, but for the number of cuts
 pub same-open : (s t : List ℕ) (cs ds : List Cut) → Accepted s cs → Accepted t ds → (j : ℕ) → 0 < length ds → j < length cs
@@ -28,8 +28,8 @@ pub same-open : (s t : List ℕ) (cs ds : List Cut) → Accepted s cs → Accept
     → openAnswer t ≡ O.File (summaryOf s (length ds) (getD cs 0 noCut))
 unfolding openAnswer
 same-open s t cs ds a b j some lt e one =
-    let m = told-at t ds b 0 some in
-    let zero = told-at s cs a 0 (omega arith) in
+    let m = by-octets t ds b 0 some in
+    let zero = by-octets s cs a 0 (omega arith) in
     let product =
     m .product ∙ ap productBy e
     ∙ four-alike baseFormat (λ o. productOf (parameterAt o 0)) (λ x y z k. ap productOf (as-first x y z k .0)) s cs a j 0 lt (omega arith) ∙ sym (zero .product) in

@@ -21,9 +21,9 @@ use Rattle.files.proofs.Leading.{zero-is, one-is}
 use Rattle.files.proofs.FromFile.{of-file}
 use Rattle.files.proofs.Total.{assembled-one}
 use Rattle.files.proofs.Smaller.{Some, chosen-some, assembled-file, smaller-file, smaller-short}
-use Rattle.moved.specs.Told.{stretchesBy}
+use Rattle.moved.specs.ByOctets.{stretchesBy}
 use Rattle.moved.specs.Wishes.{countFrom, smallerOf}
-use Rattle.moved.proofs.Told.{told-at}
+use Rattle.moved.proofs.ByOctets.{by-octets}
 use Rattle.polar.specs.Opening.{summaryOf, openAnswer}
 use Rattle.polar.specs.declared.Opened.the-variants as O
 use Rattle.moved.proofs.Opened.{same-open}
@@ -148,6 +148,6 @@ rescued s ps left a some few small =
       are = k .are;
       stretches =
           λ i lt x ray bin.
-          told-at t (k .cs) (k .accepted) i lt .stretches-are x ray bin
+          by-octets t (k .cs) (k .accepted) i lt .stretches-are x ray bin
           ∙ ap (λ (p : Parts). stretchesBy p x ray bin) (sym (List·getD-map (partsAt t) (k .cs) i noCut) ∙ ap (λ (l : List Parts). getD l i (partsAt t noCut)) (k .are));
     }

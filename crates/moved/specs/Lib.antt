@@ -1,3 +1,3 @@
-pub mod Told
+pub mod ByOctets
 pub mod Wishes
-pub mod DualTold
+pub mod DualByOctets

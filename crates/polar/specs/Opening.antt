@@ -37,13 +37,13 @@ openAnswer s = onFile O.Refused (λ n c. O.File (summaryOf s n c)) (verdict s)
 unfoldable pub elevationOf : ℕ → Elevation
 elevationOf n = cond (eqb n 0xFFFF) Missing (Hundredths (signed 2 n))
 
--- "Nb, Nr, latitude, longitude, Dx, Dstart, start azimuth, octet 38, elevation constant or missing"
+-- "Nb, Nr, latitude, longitude, Dx, Dstart, start azimuth, octet 38, elevation constant or missing"; octet 38 is the mode of operation
 unfoldable pub infoOf : List ℕ → Cut → CutInfo
 infoOf s c =
     record {
       grid = gridAt s (c .section3);
       «start_azimuth» = field s (c .section3) 40 2;
-      octet38 = field s (c .section4) 38 1;
+      mode = field s (c .section4) 38 1;
       elevation = elevationOf (field s (c .section4) 42 2);
     }
 

@@ -2,8 +2,8 @@
 -- is level r x Nb + b" of what the cut's data decodes to.
 use Prim.Native.Nat.{ℕ}
 use mathlib.Core.List.{List}
-use mathlib.Core.Bool.{cond, _&&_}
-use lib.Dec.{ltb}
+use mathlib.Core.Bool.{true, _&&_}
+use lib.Dec.{ltb, leb}
 use lib.IntN.{ℤ}
 use Rattle.fraction.specs.Quotient.{hundredths}
 use Rattle.lent.specs.Lent.{front}
@@ -11,14 +11,12 @@ use Rattle.values.specs.Reading.{readingOf}
 use Rattle.values.specs.Ray.{marksOf, valuesOf}
 use Rattle.values.specs.declared.Reading.{Reading}
 use Rattle.values.specs.declared.Reading.the-variants as R
-use Rattle.sections.specs.Refusal.{refuse}
-use Rattle.sections.specs.declared.Why.the-variants.{Argument, Room}
 use Rattle.sections.specs.Parts.{binsIn, raysIn}
 use Rattle.base_format.specs.Parts.{productIn, levelIn}
 use Rattle.base_format.specs.Verdict.{verdict}
 use Rattle.sections.specs.declared.Cut.{Cut}
 use Rattle.cuts.specs.Bins.{rayIn}
-use Rattle.calls.specs.Cuts.{onCut, cutIn, ifWritten}
+use Rattle.calls.specs.Cuts.{onCut, judged, cutIn, ifWritten}
 use Rattle.calls.specs.declared.RayAnswer.{RayAnswer}
 use Rattle.calls.specs.declared.RayAnswer.the-variants.{Written, Refused}
 use Rattle.calls.specs.declared.BinAnswer.{BinAnswer}
@@ -26,7 +24,7 @@ use Rattle.calls.specs.declared.BinAnswer.the-variants as B
 
 -- 10 for the ray, then 11 for room under Nb
 unfoldable pub rayOn : List ℕ → ℕ → ℕ → Cut → RayAnswer
-rayOn s ray room c = cond (ltb ray (raysIn s c)) (cond (ltb room (binsIn s c)) (Refused (refuse Room 0)) Written) (Refused (refuse Argument 0))
+rayOn s ray room c = judged Refused c (ltb ray (raysIn s c)) (leb (binsIn s c) room) true Written
 
 -- both ray calls; of two rooms the smaller counts: "under Nb (either buffer)"
 unfoldable pub rayAnswer : List ℕ → ℕ → ℕ → ℕ → RayAnswer
@@ -50,8 +48,7 @@ binOf (R.Number z) = B.Value (hundredths z)
 
 -- 10 for the ray or the bin
 unfoldable pub binOn : List ℕ → ℕ → ℕ → Cut → BinAnswer
-binOn s ray bin c =
-    cond (ltb ray (raysIn s c) && ltb bin (binsIn s c)) (binOf (readingOf (productIn s c) (levelIn s c ray bin))) (B.Refused (refuse Argument 0))
+binOn s ray bin c = judged B.Refused c (ltb ray (raysIn s c) && ltb bin (binsIn s c)) true true (binOf (readingOf (productIn s c) (levelIn s c ray bin)))
 
 unfoldable pub binAnswer : List ℕ → ℕ → ℕ → ℕ → BinAnswer
 binAnswer s i ray bin = onCut B.Refused (binOn s ray bin) i (verdict s)

@@ -12,7 +12,7 @@ use Rattle.base_format.specs.Checks.{baseChecks}
 use Rattle.base_format.specs.Accepted.{baseFormat}
 use Rattle.stretches.specs.Stretch.{perEntry}
 use Rattle.stretches.specs.Call.{rightT, rightPoint}
-use Rattle.calls.specs.Reasons.{Reason, Asking, Filling}
+use Rattle.calls.specs.Reasons.{Reason, Asking, Filling, BinFault}
 
 abbrev pub CutReasons : List ℕ → ℕ → Refusal → Type 0
 CutReasons s i = Reason baseChecks baseFormat s i (Asking (λ c. ⊥))
@@ -23,9 +23,6 @@ RayFault s ray room = Filling (λ c. raysIn s c ≤ ray) (λ c. room < binsIn s 
 
 abbrev pub RayReasons : List ℕ → ℕ → ℕ → ℕ → Refusal → Type 0
 RayReasons s i ray room = Reason baseChecks baseFormat s i (RayFault s ray room)
-
-abbrev pub BinFault : List ℕ → ℕ → ℕ → Cut → Refusal → Type 0
-BinFault s ray bin = Asking (λ c. (raysIn s c ≤ ray) ⊎ (binsIn s c ≤ bin))
 
 abbrev pub BinReasons : List ℕ → ℕ → ℕ → ℕ → Refusal → Type 0
 BinReasons s i ray bin = Reason baseChecks baseFormat s i (BinFault s ray bin)

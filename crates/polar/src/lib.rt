@@ -6,21 +6,23 @@ use calls::RayAnswer;
 use calls::Sought;
 use sections::Cut;
 use sections::Grid;
+use sections::Judged;
 use sections::Refusal;
 use sections::Time;
-use sections::Why;
 use stretches::Listing;
 use values::Product;
 use values::Reading;
 use walks::Walked;
 ghost use mathlib.Core.Path.{_≡_};
+ghost use mathlib.Core.Bool.{_&&_};
 ghost use Prim.Native.Nat.{min};
 ghost use lib.ListN.{length};
 ghost use Rattle.lent.specs.Lent.{front};
 ghost use Rattle.values.specs.Ray.{marksOf, valuesOf};
 ghost use Rattle.base_format.specs.Parts.{productIn};
 ghost use Rattle.base_format.specs.Good.{GoodCut};
-ghost use Rattle.stretches.specs.Call.{outOf};
+ghost use Rattle.sections.specs.Parts.{binsIn, raysIn};
+ghost use Rattle.stretches.specs.Call.{outOf, rightT, rightPoint};
 ghost use Rattle.cuts.specs.Bins.{rayIn, stretchesIn};
 ghost use Rattle.calls.specs.Cuts.{ifWritten};
 ghost use Rattle.polar.specs.Opening.{summaryOf, elevationOf, infoOf};
@@ -50,7 +52,7 @@ pub enum Elevation {
 pub struct CutInfo {
     pub grid: Grid,
     pub start_azimuth: u16,
-    pub octet38: u8,
+    pub mode: u8,
     pub elevation: Elevation,
 }
 
@@ -111,12 +113,12 @@ fn info_of(file: &[u8], c: Cut) -> CutInfo
     let section4 = c.section4;
     let grid = sections::grid_at(file, section3);
     let start_azimuth = rules::field16(file, section3, 40);
-    let octet38 = rules::field8(file, section4, 38);
+    let mode = rules::field8(file, section4, 38);
     let elevation = elevation_of(rules::field16(file, section4, 42));
     CutInfo {
         grid,
         start_azimuth,
-        octet38,
+        mode,
         elevation,
     }
 }
@@ -138,19 +140,9 @@ fn ray_levels_on(file: &[u8], c: Cut, ray: usize, out: &mut [u8]) -> RayAnswer
     ensures { λ r. ⌜ r ≡ rayOn (now (file .entry)) ray (length (now (out .entry))) c ⌝ }
     ensures { λ r. ⌜ now (out .exit) ≡ ifWritten r (front (rayIn (now (file .entry)) c ray) (now (out .entry))) (now (out .entry)) ⌝ }
 {
-    let nr = sections::rays_in(file, c);
-    let nb = sections::bins_in(file, c);
-    if nr <= ray {
-        return RayAnswer::Refused(Refusal {
-            why: Why::Argument,
-            place: 0,
-        });
-    }
-    if out.len() < nb {
-        return RayAnswer::Refused(Refusal {
-            why: Why::Room,
-            place: 0,
-        });
+    let judged = calls::judge_ray(file, c, ray, out.len());
+    if let Judged::Refused(refusal) = judged {
+        return RayAnswer::Refused(refusal);
     }
     cuts::ray_into(file, c, ray, out);
     RayAnswer::Written
@@ -172,25 +164,10 @@ fn ray_values_on(file: &[u8], c: Cut, ray: usize, marks: &mut [u8], values: &mut
     ensures { λ r. ⌜ now (marks .exit) ≡ ifWritten r (marksOf (productIn (now (file .entry)) c) (rayIn (now (file .entry)) c ray) (now (marks .entry))) (now (marks .entry)) ⌝ }
     ensures { λ r. ⌜ now (values .exit) ≡ ifWritten r (valuesOf (productIn (now (file .entry)) c) (rayIn (now (file .entry)) c ray) (now (values .entry))) (now (values .entry)) ⌝ }
 {
-    let nr = sections::rays_in(file, c);
-    let nb = sections::bins_in(file, c);
-    if nr <= ray {
-        return RayAnswer::Refused(Refusal {
-            why: Why::Argument,
-            place: 0,
-        });
-    }
-    if marks.len() < nb {
-        return RayAnswer::Refused(Refusal {
-            why: Why::Room,
-            place: 0,
-        });
-    }
-    if values.len() < nb {
-        return RayAnswer::Refused(Refusal {
-            why: Why::Room,
-            place: 0,
-        });
+    let room = lent::least(marks.len(), values.len());
+    let judged = calls::judge_ray(file, c, ray, room);
+    if let Judged::Refused(refusal) = judged {
+        return RayAnswer::Refused(refusal);
     }
     cuts::readings_into(file, c, ray, marks, values);
     RayAnswer::Written
@@ -226,19 +203,9 @@ fn bin_value_on(file: &[u8], c: Cut, ray: usize, bin: usize) -> BinAnswer
     requires { ⌜ GoodCut (now file) c ⌝ }
     ensures { λ r. ⌜ r ≡ binOn (now (file .entry)) ray bin c ⌝ }
 {
-    let nr = sections::rays_in(file, c);
-    let nb = sections::bins_in(file, c);
-    if nr <= ray {
-        return BinAnswer::Refused(Refusal {
-            why: Why::Argument,
-            place: 0,
-        });
-    }
-    if nb <= bin {
-        return BinAnswer::Refused(Refusal {
-            why: Why::Argument,
-            place: 0,
-        });
+    let judged = calls::judge_bin(file, c, ray, bin);
+    if let Judged::Refused(refusal) = judged {
+        return BinAnswer::Refused(refusal);
     }
     let product = base_format::product_in(file, c);
     bin_of(values::reading_of(product, cuts::level_in(file, c, ray, bin)))
@@ -256,6 +223,15 @@ pub fn bin_value(file: &[u8], i: usize, ray: usize, bin: usize) -> BinAnswer
 
 // ---- stretches
 
+// Whether T and the point may be asked for.
+fn right_list(file: &[u8], c: Cut, t: i32, ray: usize, bin: usize) -> bool
+    ensures { λ r. ⌜ r ≡ (rightT t && rightPoint (binsIn (now (file .entry)) c) (raysIn (now (file .entry)) c) ray bin) ⌝ }
+{
+    let nb = sections::bins_in(file, c);
+    let nr = sections::rays_in(file, c);
+    stretches::right_t(t) & stretches::right_point(nb, nr, ray, bin)
+}
+
 fn stretches_on(
     file: &[u8],
     c: Cut,
@@ -268,25 +244,10 @@ fn stretches_on(
     ensures { λ r. ⌜ r ≡ stretchesOn (now (file .entry)) t ray bin (length (now (words .entry))) c ⌝ }
     ensures { λ r. ⌜ now (words .exit) ≡ ifListed r (outOf (now (words .entry)) (stretchesIn (now (file .entry)) c t ray bin)) (now (words .entry)) ⌝ }
 {
-    let nr = sections::rays_in(file, c);
-    let nb = sections::bins_in(file, c);
-    if !stretches::right_t(t) {
-        return StretchAnswer::Refused(Refusal {
-            why: Why::Argument,
-            place: 0,
-        });
-    }
-    if !stretches::right_point(nb, nr, ray, bin) {
-        return StretchAnswer::Refused(Refusal {
-            why: Why::Argument,
-            place: 0,
-        });
-    }
-    if words.len() < stretches::PER_ENTRY {
-        return StretchAnswer::Refused(Refusal {
-            why: Why::Room,
-            place: 0,
-        });
+    let right = right_list(file, c, t, ray, bin);
+    let judged = calls::judge(right, stretches::PER_ENTRY <= words.len());
+    if let Judged::Refused(refusal) = judged {
+        return StretchAnswer::Refused(refusal);
     }
     StretchAnswer::Listed(cuts::list_into(file, c, t, ray, bin, words))
 }

@@ -1,5 +1,5 @@
 -- What `lay` asks at the start of a good cut, and what it then leaves.
-use Prim.Native.Nat.{ℕ, _+_, _*_, _-_, _≤_, _<_}
+use Prim.Native.Nat.{ℕ, _+_, _-_, _≤_, _<_}
 use mathlib.Core.Path.{_≡_, refl, sym, ap, subst, _∙_}
 use mathlib.Core.List.{List, []}
 use native.Mathlib.Omega.{arith}
@@ -18,7 +18,7 @@ use Rattle.sections.specs.declared.Cut.{Cut}
 use Rattle.base_format.specs.Parts.{dataAt, greatestIn}
 use Rattle.base_format.specs.Good.{GoodCut}
 use Rattle.cuts.proofs.Places.{greatest-small, data-opens, all-levels, few-bins, ray-inside}
-use borrow.Author.Tests.{lt-ltb, le-ltb}
+use borrow.Author.Tests.{lt-leb, le-leb}
 use Rattle.sections.specs.Refusal.{refuse}
 use Rattle.sections.specs.declared.Refusal.{Refusal}
 use Rattle.sections.specs.declared.Why.the-variants.{Room}
@@ -81,11 +81,11 @@ module _ (s : List ℕ) (c : Cut) (g : GoodCut s c) where
 module _ (s : List ℕ) (room : ℕ) (c : Cut) where
   pub build-short : room < raysIn s c → buildOn s room c ≡ Refused (refuse Room 0)
   unfolding buildOn
-  build-short h = rw (lt-ltb _ _ h)
+  build-short h = rw (lt-leb _ _ h)
 
   pub build-fits : raysIn s c ≤ room → buildOn s room c ≡ Written
   unfolding buildOn
-  build-fits h = rw (le-ltb _ _ h)
+  build-fits h = rw (le-leb _ _ h)
 
 module _ (s : List ℕ) (b : Task) (why : Refusal) (none : b .rays ≡ 0) (going : Going s (b .pace) 0) (answer : b .answer ≡ Refused why) where
   still : Going s (b .pace) (b .rays)

@@ -1,10 +1,8 @@
 -- FORMAT.md, "Rays by a record": what index building and the ray calls by a record answer and leave in lent memory.
 use Prim.Native.Nat.{ℕ}
-use mathlib.Core.Path.{_≡_}
 use mathlib.Core.List.{List}
-use mathlib.Core.Bool.{cond}
-use lib.Dec.{ltb}
-use lib.ListN.{length}
+use mathlib.Core.Bool.{true}
+use lib.Dec.{ltb, leb}
 use lib.IntN.{ℤ}
 use Rattle.lent.specs.Lent.{front}
 use Rattle.index.specs.declared.RayRecord.{RayRecord}
@@ -13,16 +11,14 @@ use Rattle.sections.specs.Parts.{binsIn, raysIn}
 use Rattle.sections.specs.declared.Cut.{Cut}
 use Rattle.base_format.specs.Parts.{productIn}
 use Rattle.base_format.specs.Verdict.{verdict, anyDataVerdict}
-use Rattle.sections.specs.Refusal.{refuse}
-use Rattle.sections.specs.declared.Why.the-variants.{Argument, Room, Record}
-use Rattle.calls.specs.Cuts.{onCut, cutIn, cutAnyData, ifWritten}
+use Rattle.calls.specs.Cuts.{onCut, judged, cutIn, cutAnyData, ifWritten}
 use Rattle.calls.specs.declared.RayAnswer.{RayAnswer}
 use Rattle.calls.specs.declared.RayAnswer.the-variants.{Written, Refused}
 use Rattle.cuts.specs.Records.{recordsIn, usableIn, rayFrom}
 
 -- "Building with fewer records than rays: 11"
 unfoldable pub buildOn : List ℕ → ℕ → Cut → RayAnswer
-buildOn s room c = cond (ltb room (raysIn s c)) (Refused (refuse Room 0)) Written
+buildOn s room c = judged Refused c true (leb (raysIn s c) room) true Written
 
 unfoldable pub buildAnswer : List ℕ → ℕ → ℕ → RayAnswer
 buildAnswer s i room = onCut Refused (buildOn s room) i (verdict s)
@@ -33,11 +29,7 @@ rowAfter a s i row = ifWritten a (front (recordsIn s (cutIn s i)) row) row
 
 -- by a record: 10 for the ray, then 11, then 13, "place: section 7's start"
 unfoldable pub fromOn : List ℕ → ℕ → RayRecord → ℕ → Cut → RayAnswer
-fromOn s ray rec room c =
-    cond (ltb ray (raysIn s c))
-    (cond (ltb room (binsIn s c)) (Refused (refuse Room 0))
-    (cond (usableIn s c rec) Written (Refused (refuse Record (c .section7)))))
-    (Refused (refuse Argument 0))
+fromOn s ray rec room c = judged Refused c (ltb ray (raysIn s c)) (leb (binsIn s c) room) (usableIn s c rec) Written
 
 -- both ray calls by a record: "every file check but 8", and then as `rayAnswer`
 unfoldable pub fromAnswer : List ℕ → ℕ → ℕ → RayRecord → ℕ → RayAnswer

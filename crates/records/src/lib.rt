@@ -7,15 +7,17 @@ use calls::Sought;
 use index::Pace;
 use index::RayRecord;
 use sections::Cut;
-use sections::Refusal;
+use sections::Judged;
 use sections::Why;
 ghost use mathlib.Core.Path.{_≡_};
+ghost use mathlib.Core.Bool.{cond};
 ghost use Prim.Native.Nat.{min};
 ghost use lib.ListN.{length};
 ghost use Rattle.lent.specs.Lent.{front};
 ghost use Rattle.index.specs.Pace.{Going};
 ghost use Rattle.values.specs.Ray.{marksOf, valuesOf};
 ghost use Rattle.sections.specs.Parts.{raysIn};
+ghost use Rattle.sections.specs.Refusal.{refuse};
 ghost use Rattle.base_format.specs.Parts.{productIn};
 ghost use Rattle.base_format.specs.Good.{AnyDataCut, GoodCut};
 ghost use Rattle.cuts.specs.Records.{rayFrom};
@@ -62,13 +64,7 @@ fn task_on(file: &[u8], c: Cut, room: usize) -> Task
 {
     let nr = sections::rays_in(file, c);
     if room < nr {
-        return nothing_laid(
-            file,
-            RayAnswer::Refused(Refusal {
-                why: Why::Room,
-                place: 0,
-            }),
-        );
+        return nothing_laid(file, RayAnswer::Refused(sections::refuse(Why::Room, 0)));
     }
     Task {
         pace: start_in(file, c),
@@ -97,32 +93,26 @@ pub fn build_index(file: &[u8], i: usize, row: &mut [RayRecord]) -> RayAnswer
 
 // ---- rays by a record
 
+// Written, or 13 where the record does not fit.
+fn by_record(c: Cut, fits: bool) -> RayAnswer
+    ensures { λ r. ⌜ r ≡ cond fits RayAnswer.Written (RayAnswer.Refused (refuse Why.Record (c .section7))) ⌝ }
+{
+    if fits {
+        return RayAnswer::Written;
+    }
+    RayAnswer::Refused(sections::refuse(Why::Record, c.section7))
+}
+
 fn ray_levels_from_on(file: &[u8], c: Cut, ray: usize, rec: RayRecord, out: &mut [u8]) -> RayAnswer
     requires { ⌜ AnyDataCut (now file) c ⌝ }
     ensures { λ r. ⌜ r ≡ fromOn (now (file .entry)) ray rec (length (now (out .entry))) c ⌝ }
     ensures { λ r. ⌜ now (out .exit) ≡ ifWritten r (front (rayFrom (now (file .entry)) c rec) (now (out .entry))) (now (out .entry)) ⌝ }
 {
-    let nr = sections::rays_in(file, c);
-    let nb = sections::bins_in(file, c);
-    if nr <= ray {
-        return RayAnswer::Refused(Refusal {
-            why: Why::Argument,
-            place: 0,
-        });
+    let judged = calls::judge_ray(file, c, ray, out.len());
+    if let Judged::Refused(refusal) = judged {
+        return RayAnswer::Refused(refusal);
     }
-    if out.len() < nb {
-        return RayAnswer::Refused(Refusal {
-            why: Why::Room,
-            place: 0,
-        });
-    }
-    if cuts::levels_from(file, c, rec, out) {
-        return RayAnswer::Written;
-    }
-    RayAnswer::Refused(Refusal {
-        why: Why::Record,
-        place: c.section7,
-    })
+    by_record(c, cuts::levels_from(file, c, rec, out))
 }
 
 // Ray levels by a record: what decoding from there gives, Nb octets at the front of out. The data before it is not looked at.
@@ -154,33 +144,12 @@ fn ray_values_from_on(
     ensures { λ r. ⌜ now (marks .exit) ≡ ifWritten r (marksOf (productIn (now (file .entry)) c) (rayFrom (now (file .entry)) c rec) (now (marks .entry))) (now (marks .entry)) ⌝ }
     ensures { λ r. ⌜ now (values .exit) ≡ ifWritten r (valuesOf (productIn (now (file .entry)) c) (rayFrom (now (file .entry)) c rec) (now (values .entry))) (now (values .entry)) ⌝ }
 {
-    let nr = sections::rays_in(file, c);
-    let nb = sections::bins_in(file, c);
-    if nr <= ray {
-        return RayAnswer::Refused(Refusal {
-            why: Why::Argument,
-            place: 0,
-        });
+    let room = lent::least(marks.len(), values.len());
+    let judged = calls::judge_ray(file, c, ray, room);
+    if let Judged::Refused(refusal) = judged {
+        return RayAnswer::Refused(refusal);
     }
-    if marks.len() < nb {
-        return RayAnswer::Refused(Refusal {
-            why: Why::Room,
-            place: 0,
-        });
-    }
-    if values.len() < nb {
-        return RayAnswer::Refused(Refusal {
-            why: Why::Room,
-            place: 0,
-        });
-    }
-    if cuts::readings_from(file, c, rec, marks, values) {
-        return RayAnswer::Written;
-    }
-    RayAnswer::Refused(Refusal {
-        why: Why::Record,
-        place: c.section7,
-    })
+    by_record(c, cuts::readings_from(file, c, rec, marks, values))
 }
 
 // Ray values by a record: Nb marks, and the value at each measured place, of what decoding from there gives.

@@ -60,6 +60,6 @@ RightCell (Value y) b z e d = Right y b z e d
 -- what section 5 must hold: R finite, E 0 to 2, D 0 to 4, 8 or 16 bits to a cell
 pub record Packing (b e d width : ℕ) : Type 0 where
   pub reference : finiteSingle b ≡ true
-  pub binary : e ≤ 2
-  pub decimal : d ≤ 4
+  pub binary-scale : e ≤ 2
+  pub decimal-scale : d ≤ 4
   pub cells : (width ≡ 8) ⊎ (width ≡ 16)

@@ -1,7 +1,7 @@
 //! The file calls on small, real-sized and largest files: the last cut, its last ray, its last bin.
 use crate::timing::Table;
 use plain::index::Record;
-use polar_sys::RayRecord;
+use polar_sys::{RayRecord, ENTRY_WORDS};
 use reference::layout::verdict;
 use reference::maker::{document_sample, CutPlan, Plan};
 use reference::numbers::Numbers;
@@ -95,7 +95,7 @@ fn by_record(table: &Table, file: &[u8], cut: usize, rays: usize, bins: usize) {
 
 /// The whole list of a cut in one portion.
 fn list(table: &Table, file: &[u8], cut: usize, most: usize) {
-    let (mut ours, mut plain) = (vec![0; 4 * most], vec![0; 4 * most]);
+    let (mut ours, mut plain) = (vec![0; ENTRY_WORDS * most], vec![0; ENTRY_WORDS * most]);
     let mut answer = [0; 3];
     table.row(
         "stretches",

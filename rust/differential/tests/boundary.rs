@@ -179,6 +179,14 @@ fn the_library_has_the_same_structs() {
     assert_eq!(declared_structs(), structs_in_library("crates/index/src/lib.rt"));
 }
 
+/// An entry of the stretch list has as many words in the header, in the library and here.
+#[test]
+fn an_entry_has_the_same_words() {
+    let words = polar_sys::ENTRY_WORDS;
+    assert!(source("include/polar.h").contains(&format!("#define POLAR_ENTRY_WORDS {words}u\n")));
+    assert!(source("crates/stretches/src/lib.rt").contains(&format!("pub const PER_ENTRY: usize = {words};\n")));
+}
+
 /// Two words, one after the other, and nothing else.
 #[test]
 fn a_record_is_two_words() {

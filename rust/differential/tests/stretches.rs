@@ -8,7 +8,7 @@ use reference::published::Product;
 use reference::runs::MOST_LEVELS;
 use reference::shapes::{random_cut, random_plan};
 use reference::spoil::spoil;
-use reference::stretches::HOUSE_THRESHOLD;
+use reference::stretches::{ENTRY_WORDS, HOUSE_THRESHOLD};
 use reference::Refusal;
 
 const ENDS: [i32; 7] = [-32767, -7000, -1, 0, 1, 8016, 32767];
@@ -16,15 +16,17 @@ const ENDS: [i32; 7] = [-32767, -7000, -1, 0, 1, 8016, 32767];
 /// All points of the grid, legal or just past it, in every room from none to more than enough.
 fn all_points_and_rooms(compared: &Compared, cut: usize, t: i32) {
     let grid = compared.verdict.as_ref().expect("a sound file").cuts[cut].grid;
-    let enough = 4 * compared.list(cut, t).len() + 5;
+    let enough = ENTRY_WORDS * (compared.list(cut, t).len() + 1) + 1;
     let points = (0..=grid.rays + 1).flat_map(|ray| (0..=grid.bins + 1).map(move |bin| (ray, bin)));
-    let calls = points.flat_map(|point| [0, 3, 4, 5, 7, 8, 11, 12, enough].map(|room| (point, room)));
+    let [one, two, three] = [1, 2, 3].map(|entries| entries * ENTRY_WORDS);
+    let rooms = [0, one - 1, one, one + 1, two - 1, two, three - 1, three, enough];
+    let calls = points.flat_map(|point| rooms.map(|room| (point, room)));
     compared.portions(cut, t, calls);
 }
 
-/// The list fetched in portions of every room from 4 words up.
+/// The list fetched in portions of every room from one entry's up.
 fn every_room(compared: &Compared, cut: usize, t: i32) {
-    for room in 4..=4 * compared.list(cut, t).len() + 4 {
+    for room in ENTRY_WORDS..=ENTRY_WORDS * (compared.list(cut, t).len() + 1) {
         compared.fetched(cut, t, room);
     }
 }
@@ -101,8 +103,8 @@ fn arguments_past_every_edge() {
         for t in [i32::MIN, -32768, -32767, 0, 32767, 32768, i32::MAX] {
             for ray in FAR {
                 for bin in FAR {
-                    compared.stretches(cut, t, (ray, bin), 3);
-                    compared.stretches(cut, t, (ray, bin), 4);
+                    compared.stretches(cut, t, (ray, bin), ENTRY_WORDS - 1);
+                    compared.stretches(cut, t, (ray, bin), ENTRY_WORDS);
                 }
             }
         }
@@ -118,7 +120,7 @@ fn whole_lists_and_portions_of_made_files() {
         let compared = Compared::new(&file);
         for cut in 0..compared.verdict.as_ref().unwrap().cuts.len() {
             let t = n.within(0, 17_000) as i32 - 8000;
-            let room = n.within(40, 400);
+            let room = n.within(10 * ENTRY_WORDS, 100 * ENTRY_WORDS);
             compared.fetched(cut, t, room);
             compared.fetched(cut, HOUSE_THRESHOLD, 100_000);
         }
@@ -137,9 +139,10 @@ fn grids_at_the_ends() {
     let file = Plan::new(Product::Reflectivity, vec![blind, noise, across, one_bin, one_ray]).file();
     let compared = Compared::new(&file);
     for cut in 0..5 {
-        compared.fetched(cut, HOUSE_THRESHOLD, 4 * MOST_LEVELS);
+        compared.fetched(cut, HOUSE_THRESHOLD, ENTRY_WORDS * MOST_LEVELS);
         compared.fetched(cut, HOUSE_THRESHOLD, 400_001);
-        compared.portions(cut, 16, [((0, 0), 4), ((1023, 0), 4000), ((1023, 2047), 4), ((1024, 0), 4)]);
+        let one = ENTRY_WORDS;
+        compared.portions(cut, 16, [((0, 0), one), ((1023, 0), 4000), ((1023, 2047), one), ((1024, 0), one)]);
     }
 }
 
@@ -150,6 +153,6 @@ fn spoiled_files_are_refused_with_nothing_changed() {
         let mut file = random_plan(2, 6, 3, &mut n).file();
         spoil(&mut file, &mut n);
         let compared = Compared::new(&file);
-        compared.stretches(n.below(3), n.below(9000) as i32 - 4000, (n.below(4), n.below(7)), n.below(30));
+        compared.stretches(n.below(3), n.below(9000) as i32 - 4000, (n.below(4), n.below(7)), n.below(8 * ENTRY_WORDS));
     }
 }

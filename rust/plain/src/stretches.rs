@@ -4,6 +4,8 @@ use crate::runs::Runs;
 use crate::{Answer, Refusal};
 
 pub const HOUSE_THRESHOLD: i32 = 4000;
+/// Words to an entry: ray, first bin, length, kind.
+const ENTRY_WORDS: usize = 4;
 
 /// The kind of each level.
 fn kinds(product: u8, threshold: i32) -> [u8; 256] {
@@ -48,11 +50,11 @@ pub fn stretches(file: &[u8], at: usize, threshold: i32, point: (usize, usize), 
     if !(-32767..=32767).contains(&threshold) || !inside {
         return Err(Refusal(10, 0));
     }
-    if words.len() < 4 {
+    if words.len() < ENTRY_WORDS {
         return Err(Refusal(11, 0));
     }
     let (mut count, mut next) = (0, (grid.rays, 0));
-    let mut room = words.chunks_exact_mut(4);
+    let mut room = words.chunks_exact_mut(ENTRY_WORDS);
     each_stretch(&cut, product, threshold, |ray, first, length, kind| {
         if (ray, first) < point {
             return true;

@@ -18,6 +18,9 @@ pub const fn place(returned: u64) -> u64 {
     returned >> 8
 }
 
+/// Words to an entry of the stretch list: ray, first bin, length, kind.
+pub const ENTRY_WORDS: usize = 4;
+
 /// A declaration on this side of the boundary, as text.
 pub struct Declaration {
     pub name: &'static str,
@@ -117,8 +120,8 @@ pub fn open(file: &[u8], answer: &mut [u64; 9]) -> u64 {
     unsafe { polar_open(file.as_ptr(), file.len(), answer) }
 }
 
-/// Answer: Nb, Nr, latitude, longitude, Dx, Dstart, start azimuth, octet 38, whether the elevation is known, and the
-/// elevation constant (unchanged where it is missing).
+/// Answer: Nb, Nr, latitude, longitude, Dx, Dstart, start azimuth, mode of operation, whether the elevation is known,
+/// and the elevation constant (unchanged where it is missing).
 #[inline]
 pub fn cut(file: &[u8], cut: usize, answer: &mut [i64; 10]) -> u64 {
     unsafe { polar_cut(file.as_ptr(), file.len(), cut, answer) }
@@ -163,7 +166,7 @@ pub fn bin_value(file: &[u8], cut: usize, ray: usize, bin: usize, value: &mut f6
     unsafe { polar_bin_value(file.as_ptr(), file.len(), cut, ray, bin, value, answer) }
 }
 
-/// Entries of four words at the front of `words`. Answer: count of entries, next ray, next bin.
+/// Entries of [`ENTRY_WORDS`] words at the front of `words`. Answer: count of entries, next ray, next bin.
 #[inline]
 pub fn stretches(file: &[u8], cut: usize, t: i64, point: (usize, usize), words: &mut [u32], answer: &mut [u64; 3]) -> u64 {
     unsafe { polar_stretches(file.as_ptr(), file.len(), cut, t, point.0, point.1, words.as_mut_ptr(), words.len(), answer) }

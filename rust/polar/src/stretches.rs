@@ -1,11 +1,10 @@
 //! The stretch list of a cut, fetched in portions.
 use crate::{Cut, Refusal, Threshold};
+use polar_sys::ENTRY_WORDS;
 use std::fmt;
 use std::iter::FusedIterator;
 use std::mem;
 
-/// Words to an entry, as the library writes them.
-const ENTRY: usize = 4;
 /// Entries in the first portion, and in the largest. Each portion is a call on the whole file: where a list turns out long,
 /// portions grow.
 const FIRST_PORTION: usize = 1 << 10;
@@ -95,7 +94,7 @@ impl fmt::Debug for Stretches<'_> {
 
 impl<'a> Stretches<'a> {
     pub(crate) fn new(cut: Cut<'a>, threshold: Threshold) -> Self {
-        let mut list = Stretches { cut, threshold, words: vec![0; ENTRY * FIRST_PORTION], at: 0, end: 0, point: (0, 0) };
+        let mut list = Stretches { cut, threshold, words: vec![0; ENTRY_WORDS * FIRST_PORTION], at: 0, end: 0, point: (0, 0) };
         list.fetch();
         list
     }
@@ -107,7 +106,7 @@ impl<'a> Stretches<'a> {
         let returned = polar_sys::stretches(self.cut.file().octets(), self.cut.index(), t, self.point, &mut self.words, &mut answer);
         let [count, ray, bin] = answer;
         Refusal::check(returned).expect("a portion of an accepted file's list");
-        (self.at, self.end, self.point) = (0, ENTRY * count as usize, (ray as usize, bin as usize));
+        (self.at, self.end, self.point) = (0, ENTRY_WORDS * count as usize, (ray as usize, bin as usize));
     }
 }
 
@@ -120,15 +119,15 @@ impl Iterator for Stretches<'_> {
                 return None;
             }
             // the words are not read again, so the longer room need not keep them
-            let longer = (2 * self.words.len()).min(ENTRY * LARGEST_PORTION);
+            let longer = (2 * self.words.len()).min(ENTRY_WORDS * LARGEST_PORTION);
             if self.words.len() < longer {
                 drop(mem::take(&mut self.words));
                 self.words = vec![0; longer];
             }
             self.fetch();
         }
-        let entry = self.words[self.at..self.end].first_chunk::<ENTRY>()?;
-        self.at += ENTRY;
+        let entry = self.words[self.at..self.end].first_chunk::<ENTRY_WORDS>()?;
+        self.at += ENTRY_WORDS;
         let [ray, first, length, kind] = entry.map(|word| word as usize);
         Some(Stretch { ray, first, length, kind: Kind::ALL[kind] })
     }

@@ -10,7 +10,7 @@ use reference::maker::{CutPlan, Plan};
 use reference::numbers::Numbers;
 use reference::shapes::random_plan;
 use reference::spoil::spoil;
-use reference::stretches::list;
+use reference::stretches::{list, Entry};
 use reference::{cases, published};
 
 #[test]
@@ -21,7 +21,7 @@ fn refusals_have_their_number_and_place() {
     }
 }
 
-fn entries(cut: &polar::Cut, threshold: i32) -> Vec<[u32; 4]> {
+fn entries(cut: &polar::Cut, threshold: i32) -> Vec<Entry> {
     let stretches = cut.stretches(Threshold::from_hundredths(threshold).unwrap());
     stretches.map(|s| [s.ray, s.first, s.length, s.kind.number()].map(|word| word as u32)).collect()
 }

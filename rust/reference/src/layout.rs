@@ -32,7 +32,7 @@ impl Grid {
 #[derive(Debug, Clone)]
 pub struct Cut<'a> {
     pub grid: Grid,
-    /// octet 38 of section 4
+    /// the mode of operation, octet 38 of section 4
     pub mode: u8,
     /// the elevation constant in hundredths of a degree, or missing
     pub elevation: Option<i64>,

@@ -20,7 +20,7 @@ pub struct CutPlan {
     pub grid: Grid,
     /// whether a section 3 stands before it
     pub own_grid: bool,
-    /// octet 38 of section 4
+    /// the mode of operation, octet 38 of section 4
     pub mode: u8,
     /// the elevation constant's two octets
     pub elevation: u16,

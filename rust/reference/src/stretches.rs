@@ -8,7 +8,8 @@ pub const HOUSE_THRESHOLD: i32 = 4000;
 pub const GREATEST_THRESHOLD: i32 = 32767;
 
 /// Ray, first bin, length, kind.
-pub type Entry = [u32; 4];
+pub type Entry = [u32; ENTRY_WORDS];
+pub const ENTRY_WORDS: usize = 4;
 
 #[derive(Debug, Clone, Copy, PartialEq, Eq)]
 pub struct Portion {
@@ -35,19 +36,19 @@ pub fn list(cut: &Cut, product: Product, threshold: i32) -> Vec<Entry> {
 pub fn portion(list: &[Entry], rays: usize, point: (usize, usize), words: &mut [u32]) -> Portion {
     let start = |entry: &Entry| (entry[0] as usize, entry[1] as usize);
     let from = &list[list.partition_point(|entry| start(entry) < point)..];
-    let count = from.len().min(words.len() / 4);
-    words[..4 * count].copy_from_slice(from[..count].as_flattened());
+    let count = from.len().min(words.len() / ENTRY_WORDS);
+    words[..ENTRY_WORDS * count].copy_from_slice(from[..count].as_flattened());
     Portion { count, next: from.get(count).map_or((rays, 0), start) }
 }
 
 impl Accepted<'_> {
-    /// 10 for the cut, T or the point; 11 under 4 words.
+    /// 10 for the cut, T or the point; 11 under the words of an entry.
     pub fn check_stretches(&self, cut: usize, threshold: i32, point: (usize, usize), room: usize) -> Result<(), Refusal> {
         let grid = self.cut(cut)?.grid;
         in_range((-GREATEST_THRESHOLD..=GREATEST_THRESHOLD).contains(&threshold))?;
         let (ray, bin) = point;
         in_range(ray < grid.rays && bin < grid.bins || point == (grid.rays, 0))?;
-        has_room(room >= 4)
+        has_room(room >= ENTRY_WORDS)
     }
 
     pub fn stretches(&self, cut: usize, threshold: i32, point: (usize, usize), words: &mut [u32]) -> Result<Portion, Refusal> {

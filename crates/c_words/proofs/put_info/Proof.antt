@@ -13,7 +13,7 @@ returns c =
     let h = c .before .before .struct-known2 .given in
     let a = s .args .info in
     c .put-elevation .ensures
-    ∙ rw (g .put-grid .ensures, unsigned-word (a .«start_azimuth») (omega (arith, h .1 .0)), unsigned-word (a .octet38) (omega (arith, h .1 .1 .0)))
+    ∙ rw (g .put-grid .ensures, unsigned-word (a .«start_azimuth») (omega (arith, h .1 .0)), unsigned-word (a .mode) (omega (arith, h .1 .1 .0)))
 
 pub put-info-spec : {M : Type 1} → statement M
 put-info-spec = tie.close (tie.spec (λ c κs. search needs) (λ c. search needs) (λ c. search needs) (λ c. search needs) (λ c. search needs) (λ c κs. search needs) returns)

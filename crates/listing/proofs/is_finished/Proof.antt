@@ -7,7 +7,7 @@ use borrow.Author.Needs.{needs}
 use denote.Enum.Declared.{tagOf}
 use Rattle.listing.specs.Progress.{finished}
 use Rattle.listing.specs.declared.Progress.{Progress}
-use Rattle.listing.specs.declared.Progress.the-variants.{Refused, Head, Fill, Show, End, Finished}
+use Rattle.listing.specs.declared.Progress.the-variants.{Refused, Head, ToList, ToWrite, End, Finished}
 use Rattle.listing.proofs.Progress.{the-type}
 use Rattle.listing.proofs.is_finished.Statement.{statement}
 use Rattle.listing.proofs.is_finished.Tie as tie
@@ -16,9 +16,9 @@ before-last : (p : Progress)
     → (tagOf the-type p ≡ 0) ⊎ ((tagOf the-type p ≡ 1) ⊎ ((tagOf the-type p ≡ 2) ⊎ ((tagOf the-type p ≡ 3) ⊎ (tagOf the-type p ≡ 4))))
     → false ≡ finished p
 before-last (Refused r) w = refl
-before-last (Head t) w = refl
-before-last (Fill t) w = refl
-before-last (Show t l k) w = refl
+before-last (Head part) w = refl
+before-last (ToList part) w = refl
+before-last (ToWrite part l k) w = refl
 before-last (End n) w = refl
 before-last Finished w =
     absurd (⊎-elim (λ e. omega arith) (⊎-elim (λ e. omega arith) (⊎-elim (λ e. omega arith) (⊎-elim (λ e. omega arith) (λ e. omega arith)))) w)

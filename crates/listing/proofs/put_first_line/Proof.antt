@@ -18,7 +18,7 @@ returns c =
     let bins : tie.After-bins-in = search in
     let rays : tie.After-rays-in = search in
     let n = number .product-number .ensures ∙ ap productNumber (product .product-in .ensures) in
-    named (λ i. headLine (s .args .t .number) (n i) (bins .bins-in .ensures i) (rays .rays-in .ensures i) houseThreshold) (c .before .before .put-head .ensures)
+    named (λ i. headLine (s .args .part .number) (n i) (bins .bins-in .ensures i) (rays .rays-in .ensures i) houseThreshold) (c .before .before .put-head .ensures)
 
 pub put-first-line-spec : {M : Type 1} → statement M
 put-first-line-spec =

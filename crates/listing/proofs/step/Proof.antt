@@ -3,51 +3,51 @@ use native.Mathlib.Omega.{arith}
 use mathlib.Core.Path.{refl}
 use borrow.Author.Needs.{needs}
 use Rattle.listing.specs.Progress.{Sound}
-use Rattle.listing.proofs.Going.{goes-refused, goes-end, goes-head, goes-fill, goes-nowhere}
+use Rattle.listing.proofs.Steps.{step-refused, step-end, step-head, step-list, step-none}
 use Rattle.listing.proofs.step.Statement.{statement}
 use Rattle.listing.proofs.step.Tie as tie
 
-fill-requires : tie.Need-fill-requires
+list-part-requires : tie.Need-list-part-requires
 unfolding Sound
-fill-requires c κs = let s = c .before .before .before .before .before .before .before in (rw (c .before .before .p3 .given .1) at (s .pre .0), s .pre .1 .0)
+list-part-requires c κs = let s = c .before .before .before .before .before .before .before in (rw (c .before .before .p3 .given .1) at (s .pre .0), s .pre .1 .0)
 
-show-requires : tie.Need-show-requires
+put-more-lines-requires : tie.Need-put-more-lines-requires
 unfolding Sound
-show-requires c κs = let s = c .before .before .before .before .before .before .before .before in (rw (c .before .before .before .p4 .given .1) at (s .pre .0), s .pre .1 .1)
+put-more-lines-requires c κs = let s = c .before .before .before .before .before .before .before .before in (rw (c .before .before .before .p4 .given .1) at (s .pre .0), s .pre .1 .1)
 
 returns : tie.Need-returns
 returns c = let s : tie.Start = search in
     let k : tie.After-number-of = search in
     let f : tie.After-p = search in
-    goes-refused (s .args .file .now) (s .args .words .now) (s .args .text .now) (c .before .before .put-refused .last .0) (s .args .p) (s .args .at) (c .before .before .put-refused .result) (k .number-of .result)
+    step-refused (s .args .file .now) (s .args .words .now) (s .args .text .now) (c .before .before .put-refused .last .0) (s .args .p) (s .args .at) (c .before .before .put-refused .result) (k .number-of .result)
     (f .p .given .0 .0 .place) (f .p .given .0 .0) (f .p .given .1) (k .number-of .ensures) refl (c .before .before .put-refused .ensures)
 
 returns-2 : tie.Need-returns-2
 returns-2 c = let s = c .before .before .before .before .before .before .before .before .before .before in
-    goes-head (s .args .file .now) (s .args .words .now) (s .args .text .now) (c .before .before .put-first-line .last .1 .1 .0) (s .args .p) (s .args .at) (c .before .before .put-first-line .result) (c .before .before .before .before .before .p2 .given .0 .0)
+    step-head (s .args .file .now) (s .args .words .now) (s .args .text .now) (c .before .before .put-first-line .last .1 .1 .0) (s .args .p) (s .args .at) (c .before .before .put-first-line .result) (c .before .before .before .before .before .p2 .given .0 .0)
     (c .before .before .before .before .before .p2 .given .1) (s .pre .0) (c .before .before .put-first-line .ensures)
 
 returns-3 : tie.Need-returns-3
 returns-3 c = let s = c .before .before .before .before .before .before .before .before .before .before in
-    goes-fill (s .args .file .now) (c .before .before .fill .last .1 .1 .0) (s .args .text .now) (s .args .p) (s .args .at) (c .before .before .before .before .before .p3 .given .0 .0) (c .before .before .fill .result) (c .before .before .before .before .before .p3 .given .1)
-    (c .before .before .fill .ensures .0) (c .before .before .fill .ensures .1) (omega (arith, s .pre .1 .1))
+    step-list (s .args .file .now) (c .before .before .list-part .last .1 .1 .0) (s .args .text .now) (s .args .p) (s .args .at) (c .before .before .before .before .before .p3 .given .0 .0) (c .before .before .list-part .result) (c .before .before .before .before .before .p3 .given .1)
+    (c .before .before .list-part .ensures .0) (c .before .before .list-part .ensures .1) (omega (arith, s .pre .1 .1))
 
 returns-4 : tie.Need-returns-4
-returns-4 c = rw (c .before .before .before .before .before .before .p4 .given .1) (c .before .before .show .ensures)
+returns-4 c = rw (c .before .before .before .before .before .before .p4 .given .1) (c .before .before .put-more-lines .ensures)
 
 returns-5 : tie.Need-returns-5
 returns-5 c = let s = c .before .before .before .before .before .before .before .before .before .before in
-    goes-end (s .args .file .now) (s .args .words .now) (s .args .text .now) (c .before .before .put-end .last .0) (s .args .p) (s .args .at) (c .before .before .put-end .result) (c .before .before .before .before .before .p5 .given .0 .0)
+    step-end (s .args .file .now) (s .args .words .now) (s .args .text .now) (c .before .before .put-end .last .0) (s .args .p) (s .args .at) (c .before .before .put-end .result) (c .before .before .before .before .before .p5 .given .0 .0)
     (c .before .before .before .before .before .p5 .given .1) (c .before .before .put-end .ensures)
 
 returns-6 : tie.Need-returns-6
 returns-6 c = let s = c .before .before .before .before .before in
-    goes-nowhere (s .args .file .now) (s .args .words .now) (s .args .text .now) (s .args .p) (s .args .at) (c .enum-told .given .1) (omega (arith, s .pre .1 .1))
+    step-none (s .args .file .now) (s .args .words .now) (s .args .text .now) (s .args .p) (s .args .at) (c .enum-told .given .1) (omega (arith, s .pre .1 .1))
 
 pub step-spec : {M : Type 1} → statement M
 step-spec =
     tie.close (tie.spec (λ c. search needs) (λ c κs. search needs) (λ c κs. search needs) (λ c. search needs)
-    (λ c κs. search needs) (λ c. search needs) fill-requires (λ c. search needs) show-requires
+    (λ c κs. search needs) (λ c. search needs) list-part-requires (λ c. search needs) put-more-lines-requires
     (λ c. search needs) (λ c κs. search needs) (λ c. search needs) (λ c. search needs) returns
     (λ c. search needs) returns-2 (λ c. search needs) returns-3 (λ c. search needs) (λ c. search needs)
     returns-4 (λ c. search needs) returns-5 returns-6)

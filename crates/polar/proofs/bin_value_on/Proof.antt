@@ -1,40 +1,43 @@
--- A law for each way out (Answering.antt).
-use Rattle.values.specs.Published.{levelCount}
-use Rattle.polar.proofs.Answering.{bin-ray-none, bin-none, bin-is}
-use Rattle.polar.specs.Rays.{binOf}
-use Rattle.values.specs.Reading.{readingOf}
-use denote.Ref.{now}
+-- By what the call asks of the cut (`calls` Judging.antt).
+use mathlib.Core.Path.{sym, _∙_, ap}
+use mathlib.Core.Bool.{true}
 use native.Mathlib.Omega.{arith}
-use mathlib.Core.Path.{_∙_, ap}
-use Rattle.sections.specs.Refusal.{refuse}
 use borrow.Author.Needs.{needs}
+use borrow.Author.Tests.{ltb-true}
+use Rattle.rules.proofs.Chains.{and-true-both}
+use Rattle.values.specs.Published.{levelCount}
+use Rattle.values.specs.Reading.{readingOf}
+use Rattle.calls.specs.declared.BinAnswer.the-variants.{Refused}
+use Rattle.calls.proofs.Judging.{judged-bad, judged-fine}
+use Rattle.polar.specs.Rays.{binOf, binOn}
 use Rattle.polar.proofs.bin_value_on.Statement.{statement}
 use Rattle.polar.proofs.bin_value_on.Tie as tie
 
 returns : tie.Need-returns
-unfolding refuse
-returns c = let a = c .before .before .before .before .args in
-    bin-ray-none (now (a .file)) (a .c) _ _ (c .before .before .rays-in .ensures) (c .before .bins-in .ensures) (a .ray) (a .bin) (c .if1 .taken)
-
-returns-2 : tie.Need-returns-2
-unfolding refuse
-returns-2 c = let a = c .before .before .before .before .before .args in
-    bin-none (now (a .file)) (a .c) _ _ (c .before .before .before .rays-in .ensures) (c .before .before .bins-in .ensures) (a .ray) (a .bin) (c .if2 .taken)
+unfolding binOn
+returns c = let k : tie.After-judge-bin = search in
+    let s : tie.Start = search in
+    sym (judged-bad Refused (s .args .c) true _ _ _ _ (sym (k .judge-bin .ensures) ∙ c .before .judged .given .1))
 
 level-in-requires : tie.Need-level-in-requires
-level-in-requires c κs = (c .before .before .before .before .before .before .pre, (omega (arith, c .before .before .before .before .rays-in .ensures), omega (arith, c .before .before .before .bins-in .ensures)))
+level-in-requires c κs = let k : tie.After-judge-bin = search in
+    let s : tie.Start = search in
+    let h = and-true-both _ _ (judged-fine _ _ (sym (k .judge-bin .ensures) ∙ c .before .enum-told .given .1) .0) in
+    (s .pre, (ltb-true _ _ (h .0), ltb-true _ _ (h .1)))
 
 reading-of-requires : tie.Need-reading-of-requires
 reading-of-requires c κs = let p = ap levelCount (c .before .product-in .ensures) in omega (arith, c .level-in .ensures .1)
 
-returns-3 : tie.Need-returns-3
-returns-3 c = let a = c .before .before .before .before .before .before .before .before .before .args in
+returns-2 : tie.Need-returns-2
+unfolding binOn
+returns-2 c = let k : tie.After-judge-bin = search in
+    let t : tie.After-enum-told = search in
+    let h = judged-fine _ _ (sym (k .judge-bin .ensures) ∙ t .enum-told .given .1) in
     let p = c .before .before .before .product-in .ensures in
     let l = c .before .before .level-in .ensures .0 in
-    c .bin-of .ensures ∙ ap binOf (c .before .reading-of .ensures ∙ (λ i. readingOf (p i) (l i)))
-    ∙ bin-is (now (a .file)) (a .c) _ _ (c .before .before .before .before .before .before .before .rays-in .ensures) (c .before .before .before .before .before .before .bins-in .ensures) (a .ray) (a .bin) (c .before .before .before .before .before .if1 .left) (c .before .before .before .before .if2 .left)
+    rw (h .0) (c .bin-of .ensures ∙ ap binOf (c .before .reading-of .ensures ∙ (λ i. readingOf (p i) (l i))))
 
 pub bin-value-on-spec : {M : Type 1} → statement M
 bin-value-on-spec =
-    tie.close (tie.spec (λ c κs. search needs) (λ c κs. search needs) returns returns-2 (λ c κs. search needs)
-    level-in-requires reading-of-requires (λ c κs. search needs) returns-3)
+    tie.close (tie.spec (search needs) (λ c. search needs) returns (λ c. search needs) (search needs)
+    level-in-requires reading-of-requires (search needs) returns-2)

@@ -106,11 +106,11 @@ module _ {M : Type 1} (𝓤 : URA M) (H : Heap 𝓤) (A : Atoms 𝓤) (W : Given
   abbrev Post : Val → SProp 𝓤
   Post = walkOf 𝓤 H A call.ended stayed (call.clauses 𝓤 H A mem run) .post ((κs, (q₀, (q₁, tt)), tt, a, vals), tt)
 
-  abbrev FormatChecks : Fml
-  FormatChecks = ShrSlice (named 0) κ₀ u8 .own s (vs ∷ [])
+  abbrev FileLent : Fml
+  FileLent = ShrSlice (named 0) κ₀ u8 .own s (vs ∷ [])
 
-  abbrev Mut : Fml
-  Mut = MutSlice (named 1) κ₁ R.the-row .own x (vr ∷ [])
+  abbrev RowLent : Fml
+  RowLent = MutSlice (named 1) κ₁ R.the-row .own x (vr ∷ [])
 
   exits : (w : Val) (n : ℕ) (zs : List RayRecord) → BuildIndexCall (now s) i ys n zs → length zs ≡ length ys
       → ent 𝓤 (⋆ 𝓤 H A ((‵ (flft κ₀ q₀) ⊛ ‵ (flft κ₁ q₁) ⊛ ‵ ftrue) ∷ ‵ (finally R.the-row γ zs) ∷ ‵ (u64 .own n (w ∷ [])) ∷ [])) (Post w)
@@ -123,9 +123,9 @@ module _ {M : Type 1} (𝓤 : URA M) (H : Heap 𝓤) (A : Atoms 𝓤) (W : Given
   abbrev to-build : Build 𝓤 H A mem run .Ghost
   to-build = (((κ₀, (κ₁, tt)), (q₀, (q₁, tt)), tt, (s, (i, (x, tt))), (vs ∷ [], (vint w64 i ∷ [], (vr ∷ [], tt)))), tt)
 
-  goes-build : ent 𝓤 (⋆ 𝓤 H A ((‵ (flft κ₀ q₀) ⊛ ‵ (flft κ₁ q₁)) ∷ ‵ FormatChecks ∷ ‵ Mut ∷ [])) (Build 𝓤 H A mem run .pre to-build)
+  goes-build : ent 𝓤 (⋆ 𝓤 H A ((‵ (flft κ₀ q₀) ⊛ ‵ (flft κ₁ q₁)) ∷ ‵ FileLent ∷ ‵ RowLent ∷ [])) (Build 𝓤 H A mem run .pre to-build)
   goes-build =
-      qed W ((‵ (flft κ₀ q₀) ⊛ ‵ (flft κ₁ q₁)) ∷ ‵ FormatChecks ∷ ‵ Mut ∷ []) ∵ split ! $ nothing ! $ move ! (2 ∷ 0 ∷ []) $ join ! $ move ! (1 ∷ 0 ∷ []) $ join ! $
+      qed W ((‵ (flft κ₀ q₀) ⊛ ‵ (flft κ₁ q₁)) ∷ ‵ FileLent ∷ ‵ RowLent ∷ []) ∵ split ! $ nothing ! $ move ! (2 ∷ 0 ∷ []) $ join ! $ move ! (1 ∷ 0 ∷ []) $ join ! $
       nothing ! $ move ! (3 ∷ 0 ∷ []) $ fjoin ! $ owned ! usize (Is usize) (uint-makes 𝓤 H A W w64) i _ (refl, i-fits) $ fjoin ! $ move ! (2 ∷ 0 ∷ []) $ fjoin ! $ move ! (1 ∷ 0 ∷ []) $ join ! $ frame ! $ done !
 
   abbrev to-ret : RayAnswer → Val → Ret 𝓤 H A mem run .Ghost

@@ -124,16 +124,16 @@ module _ {M : Type 1} (𝓤 : URA M) (H : Heap 𝓤) (A : Atoms 𝓤) (W : Given
   abbrev Post : Val → SProp 𝓤
   Post = walkOf 𝓤 H A build.ended stayed (build.clauses 𝓤 H A mem run) .post ((κs, (q₀, (q₁, tt)), tt, a, vals), tt)
 
-  abbrev FormatChecks : Fml
-  FormatChecks = ShrSlice (named 0) κ₀ u8 .own s (vs ∷ [])
+  abbrev FileLent : Fml
+  FileLent = ShrSlice (named 0) κ₀ u8 .own s (vs ∷ [])
 
-  abbrev Mut : Fml
-  Mut = MutSlice (named 1) κ₁ R.the-row .own x (vr ∷ [])
+  abbrev RowLent : Fml
+  RowLent = MutSlice (named 1) κ₁ R.the-row .own x (vr ∷ [])
 
   exits : (t : Task) (zs : List RayRecord) → Is E.the-row (t .answer) (told t ∷ []) → Begins (now s) i (length ys) t → zs ≡ laidBy (now s) t ys → length zs ≡ length ys
-      → ent 𝓤 (⋆ 𝓤 H A ((‵ (flft κ₀ q₀) ⊛ ‵ (flft κ₁ q₁) ⊛ ‵ ftrue) ∷ ‵ (finally R.the-row γ zs) ∷ ‵ FormatChecks ∷ [])) (Post (told t))
+      → ent 𝓤 (⋆ 𝓤 H A ((‵ (flft κ₀ q₀) ⊛ ‵ (flft κ₁ q₁) ⊛ ‵ ftrue) ∷ ‵ (finally R.the-row γ zs) ∷ ‵ FileLent ∷ [])) (Post (told t))
   exits t zs is beg e size =
-      qed W ((‵ (flft κ₀ q₀) ⊛ ‵ (flft κ₁ q₁) ⊛ ‵ ftrue) ∷ ‵ (finally R.the-row γ zs) ∷ ‵ FormatChecks ∷ []) ∵
+      qed W ((‵ (flft κ₀ q₀) ⊛ ‵ (flft κ₁ q₁) ⊛ ‵ ftrue) ∷ ‵ (finally R.the-row γ zs) ∷ ‵ FileLent ∷ []) ∵
       suffices ! _ (ends-at 𝓤 H A build.ended stayed (build.clauses 𝓤 H A mem run) W ((κs, (q₀, (q₁, tt)), tt, a, vals), tt) (told t) (t .answer) (tt, (tt, (zs, tt))) (tt, (tt, (size, tt)))) $
       says ! (record { answer = beg .answered; after = e ∙ beg .laid ys }) $ frame ! $
       nothing ! $ move ! (1 ∷ 0 ∷ []) $ fjoin ! $ owned ! usize (Is usize) (uint-makes 𝓤 H A W w64) i _ (refl, i-fits) $ fjoin ! $ move ! (1 ∷ 0 ∷ []) $ fjoin ! $
@@ -143,9 +143,9 @@ module _ {M : Type 1} (𝓤 : URA M) (H : Heap 𝓤) (A : Atoms 𝓤) (W : Given
   abbrev to-task : TaskFor 𝓤 H A mem run .Ghost
   to-task = (((κ₀, tt), (q₀, tt), tt, (s, (i, (length ys, tt))), (vs ∷ [], (vint w64 i ∷ [], (vint w64 (length ys) ∷ [], tt)))), tt)
 
-  goes-task : ent 𝓤 (⋆ 𝓤 H A (‵ (flft κ₀ q₀) ∷ ‵ FormatChecks ∷ [])) (TaskFor 𝓤 H A mem run .pre to-task)
+  goes-task : ent 𝓤 (⋆ 𝓤 H A (‵ (flft κ₀ q₀) ∷ ‵ FileLent ∷ [])) (TaskFor 𝓤 H A mem run .pre to-task)
   goes-task =
-      qed W (‵ (flft κ₀ q₀) ∷ ‵ FormatChecks ∷ []) ∵ nothing ! $ move ! (1 ∷ 0 ∷ []) $ join ! $
+      qed W (‵ (flft κ₀ q₀) ∷ ‵ FileLent ∷ []) ∵ nothing ! $ move ! (1 ∷ 0 ∷ []) $ join ! $
       nothing ! $ owned ! usize (Is usize) (uint-makes 𝓤 H A W w64) (length ys) _ (refl, room .0) $ fjoin ! $ owned ! usize (Is usize) (uint-makes 𝓤 H A W w64) i _ (refl, i-fits) $ fjoin ! $
       move ! (2 ∷ 0 ∷ []) $ fjoin ! $ move ! (1 ∷ 0 ∷ []) $ join ! $ frame ! $ done !
 
@@ -159,9 +159,9 @@ module _ {M : Type 1} (𝓤 : URA M) (H : Heap 𝓤) (A : Atoms 𝓤) (W : Given
   to-lay t = ((κs, (q₀, (q₁, tt)), tt, laid-args t, (vs ∷ [], (P′.lowered (t .pace) ∷ [], (vint w64 (t .rays) ∷ [], (vr ∷ [], tt))))), tt)
 
   goes-lay : (t : Task) → Is P.the-row (t .pace) (P′.lowered (t .pace) ∷ []) → t .rays < 2 ^ 64 → Begins (now s) i (length ys) t
-      → ent 𝓤 (⋆ 𝓤 H A ((‵ (flft κ₀ q₀) ⊛ ‵ (flft κ₁ q₁)) ∷ ‵ FormatChecks ∷ ‵ Mut ∷ [])) (Lay 𝓤 H A mem run .pre (to-lay t))
+      → ent 𝓤 (⋆ 𝓤 H A ((‵ (flft κ₀ q₀) ⊛ ‵ (flft κ₁ q₁)) ∷ ‵ FileLent ∷ ‵ RowLent ∷ [])) (Lay 𝓤 H A mem run .pre (to-lay t))
   goes-lay t is fits beg =
-      qed W ((‵ (flft κ₀ q₀) ⊛ ‵ (flft κ₁ q₁)) ∷ ‵ FormatChecks ∷ ‵ Mut ∷ []) ∵ says ! (beg .going, beg .fits) $ split ! $ nothing ! $ move ! (2 ∷ 0 ∷ []) $ join ! $ move ! (1 ∷ 0 ∷ []) $ join ! $ frame ! $
+      qed W ((‵ (flft κ₀ q₀) ⊛ ‵ (flft κ₁ q₁)) ∷ ‵ FileLent ∷ ‵ RowLent ∷ []) ∵ says ! (beg .going, beg .fits) $ split ! $ nothing ! $ move ! (2 ∷ 0 ∷ []) $ join ! $ move ! (1 ∷ 0 ∷ []) $ join ! $ frame ! $
       nothing ! $ move ! (2 ∷ 0 ∷ []) $ fjoin ! $ owned ! usize (Is usize) (uint-makes 𝓤 H A W w64) (t .rays) _ (refl, fits) $ fjoin ! $
       owned ! P.the-row (Is P.the-row) (LL.makes P.the-type P′.the-plain 𝓤 H A) (t .pace) _ is $ fjoin ! $ move ! (1 ∷ 0 ∷ []) $ fjoin ! $ done !
 
@@ -176,7 +176,7 @@ module _ {M : Type 1} (𝓤 : URA M) (H : Heap 𝓤) (A : Atoms 𝓤) (W : Given
         move ! (19 ∷ []) $ fsplit ! $ move ! (1 ∷ []) $ fsplit ! $ drop ! $ fsplit ! $ move ! (1 ∷ []) $ drop ! $
         move ! (20 ∷ []) $ split ! $ move ! (1 ∷ []) $ split ! $ move ! (1 ∷ []) $ drop ! $
         -- [the row's token; file's; what row owns; what file owns; _8; …]: file is Copy
-        move ! (3 ∷ []) $ use1 W (‵ FormatChecks ⊛ ‵ FormatChecks) (shr-slice-copy 𝓤 H A W (named 0) κ₀ u8 .twice s (vs ∷ [])) $ split ! $
+        move ! (3 ∷ []) $ use1 W (‵ FileLent ⊛ ‵ FileLent) (shr-slice-copy 𝓤 H A W (named 0) κ₀ u8 .twice s (vs ∷ [])) $ split ! $
         move ! (3 ∷ 0 ∷ []) $ use2 W (raw (TaskFor 𝓤 H A mem run .pre to-task)) goes-task $
         calls-at ! fm (TaskFor 𝓤 H A mem run) known-task to-task (and-then ! (load ! (from ! (stop !)) (look ! 18 refl)) (and-then ! (load ! (from ! (stop !)) (look ! 16 refl)) (and-then ! (load ! (from ! (stop !)) (look ! 10 refl)) (no-more !)))) (λ u.
         use1 W (later (some (λ (t : Task). ((‵ (flft κ₀ q₀) ⊛ ‵ ftrue) ⊛ ‵ (B.the-row .own t (u ∷ []))) ⊛ raw (ensured 𝓤 H A task.ended (task.clauses 𝓤 H A mem run) (κ₀, tt) (s, (i, (length ys, tt))) tt t)))) (id⊢ 𝓤 _) $ await ! tt $ pick ! (λ t.
@@ -187,7 +187,7 @@ module _ {M : Type 1} (𝓤 : URA M) (H : Heap 𝓤) (A : Atoms 𝓤) (W : Given
         -- [file's token; what file owns; the row's token; what row owns; _8; …]: row is lent on, for all the time that it has
         assigns ! (addr ! (from ! (fld ! refl (hop ! (look-in ! 14 (sub ! 0 refl (whole !))) (stop !))))) (from ! (stop !)) (init ! 6 refl (tt, tt)) $
         assigns ! (agg ! (and-then ! (load ! (from ! (stop !)) (look ! 6 refl)) (and-then ! (load ! (from ! (fld ! refl (stop !))) (look-in ! 14 (sub ! 1 refl (whole !)))) (no-more !)))) (from ! (stop !)) (init ! 4 refl (tt, (tt, (record { fits = room .0 }, tt)))) $
-        move ! (1 ∷ []) $ use1 W (‵ FormatChecks ⊛ ‵ FormatChecks) (shr-slice-copy 𝓤 H A W (named 0) κ₀ u8 .twice s (vs ∷ [])) $ split ! $
+        move ! (1 ∷ []) $ use1 W (‵ FileLent ⊛ ‵ FileLent) (shr-slice-copy 𝓤 H A W (named 0) κ₀ u8 .twice s (vs ∷ [])) $ split ! $
         move ! (2 ∷ 3 ∷ 0 ∷ 4 ∷ []) $ join ! $ use3 W (raw (Lay 𝓤 H A mem run .pre (to-lay t))) (goes-lay t (pace-is t u is) (rays-fit t u is) beg) $
         calls-at ! fm (Lay 𝓤 H A mem run) known-lay (to-lay t) (and-then ! (load ! (from ! (stop !)) (look ! 16 refl)) (and-then ! (load ! (from ! (fld ! refl (stop !))) (look-in ! 10 (sub ! 0 refl (whole !)))) (and-then ! (load ! (from ! (fld ! refl (stop !))) (look-in ! 10 (sub ! 1 refl (whole !)))) (and-then ! (load ! (from ! (stop !)) (look ! 2 refl)) (no-more !))))) (λ w.
         use1 W (later (some (λ (r : Unit {0}). ((‵ (flft κ₀ q₀) ⊛ ‵ (flft κ₁ q₁) ⊛ ‵ ftrue) ⊛ ‵ (unit .own r (w ∷ []))) ⊛ raw (ensured 𝓤 H A lay.ended (lay.clauses 𝓤 H A mem run) κs (laid-args t) tt r)))) (id⊢ 𝓤 _) $ await ! tt $ pick ! (λ r.

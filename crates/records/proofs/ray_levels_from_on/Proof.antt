@@ -1,45 +1,40 @@
--- A law for each way out (Answering.antt).
-use Prim.Native.Nat.{ℕ}
-use mathlib.Core.Path.{_≡_, refl, ap, _∙_}
+-- By what the call asks of the cut (`calls` Judging.antt), and then by whether the record fits.
+use mathlib.Core.Path.{refl, sym, _∙_, ap}
 use mathlib.Core.Bool.{Bool, cond}
-use lib.ListN.{length}
-use denote.Ref.{now}
-use Rattle.lent.specs.Lent.{front}
-use Rattle.cuts.specs.Records.{rayFrom}
-use Rattle.records.proofs.Answering.{from-none, from-short, from-given, from-not}
-use Rattle.sections.specs.Refusal.{refuse}
 use borrow.Author.Needs.{needs}
+use borrow.Author.Tests.{leb-true}
+use denote.Ref.{now}
+use Rattle.sections.specs.Refusal.{refuse}
+use Rattle.sections.specs.declared.Why.the-variants.{Record}
+use Rattle.cuts.specs.Records.{usableIn}
+use Rattle.calls.specs.declared.RayAnswer.the-variants.{Written, Refused}
+use Rattle.calls.proofs.Judging.{judged-bad, judged-fine, written-if}
+use Rattle.records.specs.Records.{fromOn}
 use Rattle.records.proofs.ray_levels_from_on.Statement.{statement}
 use Rattle.records.proofs.ray_levels_from_on.Tie as tie
 
 returns : tie.Need-returns
-unfolding refuse
-returns c = let s = c .before .before .before .before .before in
-    (from-none (now (s .args .file)) (s .args .c) _ _ (c .before .before .rays-in .ensures) (c .before .bins-in .ensures) (s .args .ray) (s .args .rec) (length (now (s .args .out))) (c .if1 .taken), refl)
+unfolding fromOn
+returns c = let k : tie.After-judge-ray = search in
+    let s : tie.Start = search in
+    (sym (judged-bad Refused (s .args .c) (usableIn (now (s .args .file)) (s .args .c) (s .args .rec)) Written _ _ _ (sym (k .judge-ray .ensures) ∙ c .before .judged .given .1)), refl)
+
+levels-from-requires : tie.Need-levels-from-requires
+levels-from-requires c κs = let k : tie.After-judge-ray = search in
+    let s : tie.Start = search in
+    (s .pre, leb-true _ _ (judged-fine _ _ (sym (k .judge-ray .ensures) ∙ c .before .enum-told .given .1) .1))
 
 returns-2 : tie.Need-returns-2
-unfolding refuse
-returns-2 c = let s = c .before .before .before .before .before .before in
-    (from-short (now (s .args .file)) (s .args .c) _ _ (c .before .before .before .rays-in .ensures) (c .before .before .bins-in .ensures) (s .args .ray) (s .args .rec) (length (now (s .args .out))) (c .before .if1 .left) (c .if2 .taken), refl)
-
-returns-3 : tie.Need-returns-3
-returns-3 c = let s = c .before .before .before .before .before .before .before .before .before .before .before in
+unfolding fromOn
+returns-2 c = let k : tie.After-judge-ray = search in
+    let t : tie.After-enum-told = search in
+    let s : tie.Start = search in
+    let h = judged-fine _ _ (sym (k .judge-ray .ensures) ∙ t .enum-told .given .1) in
     let r = c .before .before .before .levels-from in
-    let d = now (s .args .out) in (
-      from-given (now (s .args .file)) (s .args .c) _ _ (c .before .before .before .before .before .before .before .before .rays-in .ensures) (c .before .before .before .before .before .before .before .bins-in .ensures) (s .args .ray) (s .args .rec) _ (r .ensures .0) (length d) (c .before .before .before .before .before .before .if1 .left) (c .before .before .before .before .before .if2 .left) (c .if3 .taken),
-      r .ensures .1 ∙ ap (λ (k : Bool). cond k (front (rayFrom (now (s .args .file)) (s .args .c) (s .args .rec)) d) d) (c .if3 .taken),
-    )
-
-returns-4 : tie.Need-returns-4
-unfolding refuse
-returns-4 c = let s = c .before .before .before .before .before .before .before .before .before .before .before in
-    let r = c .before .before .before .levels-from in
-    let d = now (s .args .out) in (
-      from-not (now (s .args .file)) (s .args .c) _ _ (c .before .before .before .before .before .before .before .before .rays-in .ensures) (c .before .before .before .before .before .before .before .bins-in .ensures) (s .args .ray) (s .args .rec) _ (r .ensures .0) (length d) (c .before .before .before .before .before .before .if1 .left) (c .before .before .before .before .before .if2 .left) (c .if3 .left),
-      r .ensures .1 ∙ ap (λ (k : Bool). cond k (front (rayFrom (now (s .args .file)) (s .args .c) (s .args .rec)) d) d) (c .if3 .left),
-    )
+    let none = refuse Record (s .args .c .section7) in
+    (rw (h .0, h .1) (c .by-record .ensures ∙ ap (λ (x : Bool). cond x Written (Refused none)) (r .ensures .0)), written-if (r .result) none _ _ _ _ (c .by-record .ensures) (r .ensures .1))
 
 pub ray-levels-from-on-spec : {M : Type 1} → statement M
 ray-levels-from-on-spec =
-    tie.close (tie.spec (λ c κs. search needs) (λ c κs. search needs) returns returns-2 (λ c κs. search needs)
-    (λ c. search needs) returns-3 (λ c. search needs) returns-4)
+    tie.close (tie.spec (search needs) (λ c. search needs) returns (λ c. search needs) levels-from-requires
+    (search needs) (λ c. search needs) returns-2)

@@ -1,66 +1,45 @@
--- A law for each way out (Answering.antt); of the two rooms the smaller counts.
-use Prim.Native.Nat.{ℕ, min}
-use mathlib.Core.Path.{_≡_, refl, ap, _∙_}
+-- By what the call asks of the cut (`calls` Judging.antt), and then by whether the record fits; of the two rooms the smaller counts.
+use mathlib.Core.Path.{refl, sym, _∙_, ap}
 use mathlib.Core.Bool.{Bool, cond}
-use native.Mathlib.Omega.{arith}
-use lib.ListN.{length}
-use denote.Ref.{now}
-use Rattle.values.specs.Ray.{marksOf, valuesOf}
-use Rattle.base_format.specs.Parts.{productIn}
-use Rattle.cuts.specs.Records.{rayFrom}
-use Rattle.records.proofs.Answering.{from-none, from-short, from-given, from-not}
-use Rattle.sections.specs.Refusal.{refuse}
 use borrow.Author.Needs.{needs}
+use borrow.Author.Tests.{leb-true}
+use denote.Ref.{now}
+use Rattle.sections.specs.Refusal.{refuse}
+use Rattle.sections.specs.declared.Why.the-variants.{Record}
+use Rattle.cuts.specs.Records.{usableIn}
+use Rattle.calls.specs.declared.RayAnswer.the-variants.{Written, Refused}
+use Rattle.calls.proofs.Judging.{judged-bad, judged-fine, written-if, both-rooms}
+use Rattle.records.specs.Records.{fromOn}
 use Rattle.records.proofs.ray_values_from_on.Statement.{statement}
 use Rattle.records.proofs.ray_values_from_on.Tie as tie
 
-abbrev room : tie.Start → ℕ
-room s = min (length (now (s .args .marks))) (length (now (s .args .values)))
-
 returns : tie.Need-returns
-unfolding refuse
-returns c = let s = c .before .before .before .before .before in
-    (from-none (now (s .args .file)) (s .args .c) _ _ (c .before .before .rays-in .ensures) (c .before .bins-in .ensures) (s .args .ray) (s .args .rec) (room s) (c .if1 .taken), (refl, refl))
+unfolding fromOn
+returns c = let k : tie.After-judge-ray = search in
+    let s : tie.Start = search in
+    let fits = usableIn (now (s .args .file)) (s .args .c) (s .args .rec) in
+    (rw (← k .before .least .ensures) (sym (judged-bad Refused (s .args .c) fits Written _ _ _ (sym (k .judge-ray .ensures) ∙ c .before .judged .given .1))), (refl, refl))
+
+readings-from-requires : tie.Need-readings-from-requires
+readings-from-requires c κs = let k : tie.After-judge-ray = search in
+    let s : tie.Start = search in
+    let h = judged-fine _ _ (sym (k .judge-ray .ensures) ∙ c .before .before .enum-told .given .1) in
+    (s .pre, both-rooms _ _ _ _ (leb-true _ _ (h .1)) (k .before .least .ensures))
 
 returns-2 : tie.Need-returns-2
-unfolding refuse
-returns-2 c = let s = c .before .before .before .before .before .before in
-    (from-short (now (s .args .file)) (s .args .c) _ _ (c .before .before .before .rays-in .ensures) (c .before .before .bins-in .ensures) (s .args .ray) (s .args .rec) (room s) (c .before .if1 .left) (omega arith), (refl, refl))
-
-returns-3 : tie.Need-returns-3
-unfolding refuse
-returns-3 c = let s = c .before .before .before .before .before .before .before in
-    (from-short (now (s .args .file)) (s .args .c) _ _ (c .before .before .before .before .rays-in .ensures) (c .before .before .before .bins-in .ensures) (s .args .ray) (s .args .rec) (room s) (c .before .before .if1 .left) (omega arith), (refl, refl))
-
-returns-4 : tie.Need-returns-4
-returns-4 c = let s = c .before .before .before .before .before .before .before .before .before .before .before .before .before .before in
-    let f = now (s .args .file) in
+unfolding fromOn
+returns-2 c = let k : tie.After-judge-ray = search in
+    let t : tie.After-enum-told = search in
+    let s : tie.Start = search in
+    let h = judged-fine _ _ (sym (k .judge-ray .ensures) ∙ t .enum-told .given .1) in
     let r = c .before .before .before .before .readings-from in
-    let m = now (s .args .marks) in
-    let z = now (s .args .values) in (
-      from-given (now (s .args .file)) (s .args .c) _ _ (c .before .before .before .before .before .before .before .before .before .before .before .rays-in .ensures) (c .before .before .before .before .before .before .before .before .before .before .bins-in .ensures) (s .args .ray) (s .args .rec) _ (r .ensures .0) (room s) (c .before .before .before .before .before .before .before .before .before .if1 .left) (omega arith) (c .if4 .taken),
-      (
-        r .ensures .1 .0 ∙ ap (λ (k : Bool). cond k (marksOf (productIn f (s .args .c)) (rayFrom f (s .args .c) (s .args .rec)) m) m) (c .if4 .taken),
-        r .ensures .1 .1 ∙ ap (λ (k : Bool). cond k (valuesOf (productIn f (s .args .c)) (rayFrom f (s .args .c) (s .args .rec)) z) z) (c .if4 .taken),
-      ),
-    )
-
-returns-5 : tie.Need-returns-5
-unfolding refuse
-returns-5 c = let s = c .before .before .before .before .before .before .before .before .before .before .before .before .before .before in
-    let f = now (s .args .file) in
-    let r = c .before .before .before .before .readings-from in
-    let m = now (s .args .marks) in
-    let z = now (s .args .values) in (
-      from-not (now (s .args .file)) (s .args .c) _ _ (c .before .before .before .before .before .before .before .before .before .before .before .rays-in .ensures) (c .before .before .before .before .before .before .before .before .before .before .bins-in .ensures) (s .args .ray) (s .args .rec) _ (r .ensures .0) (room s) (c .before .before .before .before .before .before .before .before .before .if1 .left) (omega arith) (c .if4 .left),
-      (
-        r .ensures .1 .0 ∙ ap (λ (k : Bool). cond k (marksOf (productIn f (s .args .c)) (rayFrom f (s .args .c) (s .args .rec)) m) m) (c .if4 .left),
-        r .ensures .1 .1 ∙ ap (λ (k : Bool). cond k (valuesOf (productIn f (s .args .c)) (rayFrom f (s .args .c) (s .args .rec)) z) z) (c .if4 .left),
-      ),
+    let none = refuse Record (s .args .c .section7) in
+    let e = c .by-record .ensures in (
+      rw (← k .before .least .ensures, h .0, h .1) (e ∙ ap (λ (x : Bool). cond x Written (Refused none)) (r .ensures .0)),
+      (written-if (r .result) none _ _ _ _ e (r .ensures .1 .0), written-if (r .result) none _ _ _ _ e (r .ensures .1 .1)),
     )
 
 pub ray-values-from-on-spec : {M : Type 1} → statement M
 ray-values-from-on-spec =
-    tie.close (tie.spec (λ c κs. search needs) (λ c κs. search needs) returns returns-2 returns-3
-    (λ c κs. search needs) (λ c. search needs) (λ c. search needs) returns-4 (λ c. search needs)
-    (λ c. search needs) returns-5)
+    tie.close (tie.spec (search needs) (search needs) (λ c. search needs) returns (λ c. search needs)
+    readings-from-requires (search needs) (λ c. search needs) (λ c. search needs) returns-2)

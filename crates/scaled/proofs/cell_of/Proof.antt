@@ -22,7 +22,7 @@ returns-2 c =
     let other : a .z ≡ 2 ^ a .width - 1 → ⊥ = λ e. c .before .if1 .left (e ∙ sym (c .before .before .all-ones .ensures)) in (
       simp (ne-eqb _ _ other) (ap Value (c .unpack .ensures)),
       subst (λ (y : Float). Right y (a .bits) (a .z) (a .e) (a .d)) (sym (c .unpack .ensures))
-          (scaled-right (a .bits) (a .z) (a .e) (a .d) (p .reference) (search needs) (p .binary) (p .decimal)),
+          (scaled-right (a .bits) (a .z) (a .e) (a .d) (p .reference) (search needs) (p .binary-scale) (p .decimal-scale)),
     )
 
 pub cell-of-spec : {M : Type 1} → statement M

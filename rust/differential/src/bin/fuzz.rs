@@ -12,7 +12,7 @@ use reference::published::Product;
 use reference::runs::MOST_LEVELS;
 use reference::shapes::{pack_loosely, random_cut, random_plan};
 use reference::spoil::{spoil, spoil_sections};
-use reference::stretches::HOUSE_THRESHOLD;
+use reference::stretches::{ENTRY_WORDS, HOUSE_THRESHOLD};
 use std::panic::{catch_unwind, resume_unwind};
 use std::process::ExitCode;
 use std::time::{Duration, Instant};
@@ -156,11 +156,11 @@ fn files(n: &mut Numbers) {
         compared.ray_values(cut, ray, room(bins, n), room(bins, n));
         compared.bin_value(cut, ray, bin);
         let point = if n.once_in(4) { n.one_of(&[(0, 0), (rays, 0), (rays, 1)]) } else { (ray, bin) };
-        let (t, words) = (threshold(product, n), n.one_of(&[0, 3, 4, 5, 12, 100, 4000]));
+        let (t, words) = (threshold(product, n), n.one_of(&[0, ENTRY_WORDS - 1, ENTRY_WORDS, ENTRY_WORDS + 1, 3 * ENTRY_WORDS, 100, 4000]));
         compared.stretches(cut, t, point, words);
     }
     if compared.verdict.is_ok() {
-        let words = n.within(4, 400);
+        let words = n.within(ENTRY_WORDS, 100 * ENTRY_WORDS);
         compared.fetched(n.below(cuts), n.below(17_000) as i32 - 8500, words);
     }
 }

@@ -1,4 +1,4 @@
--- `show` meets its contract: the standing is sound, and with each page less is to come.
+-- `write_list` meets its contract: the standing is sound, and with each page less is to come.
 use mathlib.Core.Path.{_≡_, refl, sym, _∙_}
 use native.Mathlib.Omega.{arith}
 use lib.ListN.{length}
@@ -6,8 +6,8 @@ use borrow.Author.Tests.{not-true}
 use Rattle.listing.specs.Progress.{textFrom, Sound}
 use Rattle.listing.proofs.Pages.{page-less}
 use borrow.Author.Needs.{needs}
-use Rattle.show.proofs.show.Statement.{statement}
-use Rattle.show.proofs.show.Tie as tie
+use Rattle.pages.proofs.write_list.Statement.{statement}
+use Rattle.pages.proofs.write_list.Tie as tie
 
 abbrev Inv-loop : tie.InvT-loop
 Inv-loop fd file words₀ text₀ p₀ words text p = Sound file words p × (length words ≡ length words₀) × (length text ≡ length text₀)
@@ -59,8 +59,8 @@ same-length-2 c = c .before .before .loop .inv .2
 returns : tie.Need-returns Inv-loop μ-loop
 returns c = search needs
 
-pub show-spec : {M : Type 1} → statement M
-show-spec =
+pub write-list-spec : {M : Type 1} → statement M
+write-list-spec =
     tie.close
     (tie.spec
     Inv-loop

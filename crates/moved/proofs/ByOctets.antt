@@ -21,26 +21,26 @@ use Rattle.cuts.specs.Bins.{stretchesIn}
 use Rattle.files.specs.File.{Parts, partsAt, Whole, firstFour}
 use Rattle.files.proofs.Section.{is-there}
 use Rattle.files.proofs.Each.{whole-at}
-use Rattle.moved.specs.Told.{productBy, levelsBy, stretchesBy}
+use Rattle.moved.specs.ByOctets.{productBy, levelsBy, stretchesBy}
 
 -- all that the calls tell of a cut, by its octets alone
-pub record Told (s : List ℕ) (c : Cut) (p : Parts) : Type 0 where
+pub record ByOctets (s : List ℕ) (c : Cut) (p : Parts) : Type 0 where
   pub bins : binsIn s c ≡ binsAt (p .three) 0
   pub rays : raysIn s c ≡ raysAt (p .three) 0
   pub grid : gridAt s (c .section3) ≡ gridAt (p .three) 0
   pub azimuth : field s (c .section3) 40 2 ≡ field (p .three) 0 40 2
   pub product : productIn s c ≡ productBy p
   pub site : siteAt s (c .section4) ≡ siteAt (p .four) 0
-  pub octet38 : field s (c .section4) 38 1 ≡ field (p .four) 0 38 1
+  pub mode : field s (c .section4) 38 1 ≡ field (p .four) 0 38 1
   pub elevation : field s (c .section4) 42 2 ≡ field (p .four) 0 42 2
   pub greatest : greatestIn s c ≡ greatestAt (p .five) 0
   pub octets : dataAt s (c .section7) ≡ drop 5 (p .seven)
   pub levels-are : levelsIn s c ≡ levelsBy p
   pub stretches-are : (t : ℤ) (ray bin : ℕ) → stretchesIn s c t ray bin ≡ stretchesBy p t ray bin
 
-told : (s : List ℕ) (c : Cut) (first : List ℕ) → Whole baseFormat first (partsAt s c) → Told s c (partsAt s c)
+by-whole : (s : List ℕ) (c : Cut) (first : List ℕ) → Whole baseFormat first (partsAt s c) → ByOctets s c (partsAt s c)
 unfolding binsIn raysIn productIn greatestIn levelsIn stretchesIn
-told s c first w =
+by-whole s c first w =
     let p = partsAt s c in
     let l3 = w .three-is .long in
     let l4 = w .four-is .long in
@@ -58,7 +58,7 @@ told s c first w =
       azimuth = field-alike s (c .section3) 40 2 (omega arith) (omega arith);
       product = product;
       site = site-alike s (c .section4) (omega arith);
-      octet38 = field-alike s (c .section4) 38 1 (omega arith) (omega arith);
+      mode = field-alike s (c .section4) 38 1 (omega arith) (omega arith);
       elevation = field-alike s (c .section4) 42 2 (omega arith) (omega arith);
       greatest = v;
       octets = octets;
@@ -66,5 +66,5 @@ told s c first w =
       stretches-are = λ t ray bin. (λ i. stretchesFrom (kindByThreshold (product i) t) (v i) (octets i) (nb i) (nr i) (ray * nb i + bin));
     }
 
-pub told-at : (s : List ℕ) (cs : List Cut) → Accepted s cs → (i : ℕ) → i < length cs → Told s (getD cs i noCut) (partsAt s (getD cs i noCut))
-told-at s cs a i lt = told s (getD cs i noCut) (firstFour (map (partsAt s) cs)) (whole-at baseFormat s cs a i lt)
+pub by-octets : (s : List ℕ) (cs : List Cut) → Accepted s cs → (i : ℕ) → i < length cs → ByOctets s (getD cs i noCut) (partsAt s (getD cs i noCut))
+by-octets s cs a i lt = by-whole s (getD cs i noCut) (firstFour (map (partsAt s) cs)) (whole-at baseFormat s cs a i lt)

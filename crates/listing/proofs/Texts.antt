@@ -11,8 +11,8 @@ use Rattle.stretches.specs.Stretch.{Entry}
 use Rattle.lines.specs.Text.{entryLines, endLine}
 use Rattle.lines.proofs.Lines.{lines-append}
 use Rattle.listing.specs.Listing.{headOf, houseList, cutLines, entryCount}
-use Rattle.listing.specs.Progress.{cutsIn, listOf, textAt, turnText}
-use Rattle.listing.specs.declared.Turn.{Turn}
+use Rattle.listing.specs.Progress.{cutsIn, listOf, textAt, partText}
+use Rattle.listing.specs.declared.CutPart.{CutPart}
 
 -- past the last cut
 pub no-cut : (s : List ℕ) (i n : ℕ) → length (cutsIn s) ≤ i → textAt s i n ≡ endLine n
@@ -36,12 +36,12 @@ one-cut s i n h c e =
     ∙ ap (λ (l : List ℕ). headOf s i c ++ l) (append-assoc (entryLines L) (cutLines s (suc i) rest) (endLine (n + (length L + entryCount s rest))))
     ∙ ap (λ (m : ℕ). headOf s i c ++ (entryLines L ++ (cutLines s (suc i) rest ++ endLine m))) sum)
 
--- n more lines of a turn's list
-pub turn-more : (s : List ℕ) (t : Turn) (k n : ℕ) → turnText s t k ≡ entryLines (take n (drop k (listOf s t))) ++ turnText s t (k + n)
-unfolding turnText
-turn-more s t k n =
-    let L : List Entry = listOf s t in
-    let rest : List ℕ = textAt s (suc (t .number)) (t .total + length L) in
+-- n more lines of a part's list
+pub part-more : (s : List ℕ) (part : CutPart) (k n : ℕ) → partText s part k ≡ entryLines (take n (drop k (listOf s part))) ++ partText s part (k + n)
+unfolding partText
+part-more s part k n =
+    let L : List Entry = listOf s part in
+    let rest : List ℕ = textAt s (suc (part .number)) (part .total + length L) in
     ap (λ (l : List Entry). entryLines l ++ rest) (sym (split n (drop k L)) ∙ ap (λ (l : List Entry). take n (drop k L) ++ l) (drop-drop n k L))
     ∙ ap (λ (l : List ℕ). l ++ rest) (lines-append (take n (drop k L)) (drop (k + n) L))
     ∙ append-assoc (entryLines (take n (drop k L))) (entryLines (drop (k + n) L)) rest

@@ -1,14 +1,14 @@
 -- THE THEOREMS of the calls of a dual-polarisation file, over their promises: a file is accepted exactly when none of the format's refusals applies, a refusal
 -- is by the format's order, a missing cell is never a number, and a number is within |Y| / 2^51 of the exact one. Each promise allows one answer.
 -- The idea: the answer is a function of the verdict, which is exact, and of the cell.
-use Prim.Native.Nat.{ℕ, _-_, _^_, _≤_, _<_}
+use Prim.Native.Nat.{ℕ, _-_, _^_, _<_}
 use mathlib.Core.Path.{_≡_, refl, sym, _∙_, ap, subst}
 use mathlib.Core.Logic.{_⊎_, inl, inr, _↔_}
 use mathlib.Core.List.{List}
-use mathlib.Core.Bool.{Bool, true, false, cond, _&&_}
+use mathlib.Core.Bool.{Bool, true, false, cond}
 use native.Mathlib.Omega.{arith}
-use borrow.Author.Tests.{lt-ltb, ltb-false, eqb-true, eq-eqb, ne-eqb}
-use lib.Dec.{ltb, eqb}
+use borrow.Author.Tests.{lt-ltb, eqb-true, eq-eqb, ne-eqb}
+use lib.Dec.{eqb}
 use lib.ListN.{length, getD}
 use lib.Ieee.{Float}
 use Rattle.scaled.specs.Scaled.{Right, cellOf, scaledValue}
@@ -18,20 +18,18 @@ use Rattle.sections.specs.Parts.{binsIn, raysIn, gridAt}
 use Rattle.sections.specs.Verdict.{noCut}
 use Rattle.sections.specs.declared.Cut.{Cut}
 use Rattle.sections.specs.declared.Grid.{Grid}
-use Rattle.sections.specs.Refusal.{refuse}
 use Rattle.sections.specs.declared.Refusal.{Refusal}
-use Rattle.sections.specs.declared.Why.the-variants.{Argument}
 use Rattle.dual_format.specs.Checks.{dualChecks}
 use Rattle.dual_format.specs.Accepted.{dualFormat, Accepted}
 use Rattle.dual_format.specs.Verdict.{verdict, RefusedBy}
-use Rattle.dual_format.specs.Parts.{referenceIn, binaryIn, decimalIn, widthIn, cellIn, toldIn}
+use Rattle.dual_format.specs.Parts.{referenceIn, binaryScaleIn, decimalScaleIn, widthIn, cellIn, toldIn}
 use Rattle.dual_format.proofs.Exact.{exact}
 use Rattle.calls.specs.Cuts.{cutAt}
-use Rattle.calls.specs.Reasons.{Reason, Asking, by-argument, by-room, by-record}
+use Rattle.calls.specs.Reasons.{Reason, Asking, BinFault}
 use Rattle.calls.specs.declared.BinAnswer.{BinAnswer}
 use Rattle.calls.specs.declared.BinAnswer.the-variants as B
-use Rattle.calls.proofs.ByVerdict.{file-refused, file-accepted, by-file-verdict, cut-accepted, reason, by-reason, Answers, answers-exactly, BinAnswered, bin-answers}
-use Rattle.dualpol.proofs.Answering.{no-ray, no-bin}
+use Rattle.calls.proofs.ByVerdict.{file-refused, file-accepted, by-file-verdict, cut-accepted, Answers, answers-exactly, BinAnswered, bin-answers}
+use Rattle.calls.proofs.Judging.{refuses, never, bin-judges}
 use Rattle.dualpol.specs.Answers.{summaryOf, openAnswer, OpenPromise, cutAnswer, CutPromise, binOf, binOn, binAnswer, RightIn, BinPromise}
 use Rattle.dualpol.specs.declared.DualSummary.{DualSummary}
 use Rattle.dualpol.specs.declared.DualOpened.{DualOpened}
@@ -75,27 +73,20 @@ open-accepted s m p =
 abbrev pub CutReasons : List ℕ → ℕ → Refusal → Type 0
 CutReasons s i = Reason dualChecks dualFormat s i (Asking (λ c. ⊥))
 
-pub cut-refused : (s : List ℕ) (i : ℕ) (q : Refusal) → CutPromise s i (C.Refused q) → CutReasons s i q
+cut-refuses : (s : List ℕ) (i : ℕ) (q : Refusal) → (cutAnswer s i ≡ C.Refused q) ↔ CutReasons s i q
 unfolding cutAnswer
-cut-refused s i q p =
-    reason dualChecks dualFormat exact s C.Refused (λ c. C.Cut (gridAt s (c .section3))) i (Asking (λ c. ⊥)) q (λ r e. cc e)
-    (λ c e. let z : _≡_ {A = ℕ} 0 1 = cc e in absurd (omega arith))
-    (sym p)
+cut-refuses s i =
+    refuses dualChecks dualFormat exact s i {answer = λ c. C.Cut (gridAt s (c .section3))}
+    (λ c. record { wrong = never; short = never; unfit = never; answers = λ q e. let z : _≡_ {A = ℕ} 0 1 = cc e in omega arith; same = λ p q e. cc e })
 
-no-fault : {A : Type 0} (some : Cut → A) (Refused : Refusal → A) (c : Cut) (r : Refusal) → Asking (λ c. ⊥) c r → some c ≡ Refused r
-no-fault some Refused c r (by-argument w) = absurd w
-no-fault some Refused c r (by-room w x) = absurd x
-no-fault some Refused c r (by-record w x y) = absurd y
+pub cut-refused : (s : List ℕ) (i : ℕ) (q : Refusal) → CutPromise s i (C.Refused q) → CutReasons s i q
+cut-refused s i q p = cut-refuses s i q .0 (sym p)
 
 pub refused-cut : (s : List ℕ) (i : ℕ) (q : Refusal) (a : DualCut) → CutReasons s i q → CutPromise s i a → a ≡ C.Refused q
-unfolding cutAnswer
-refused-cut s i q a h p = p ∙ by-reason dualChecks dualFormat exact s C.Refused _ i (Asking (λ c. ⊥)) q (no-fault _ C.Refused) h
-
-abbrev pub BinWrong : List ℕ → ℕ → ℕ → Cut → Type 0
-BinWrong s ray bin c = (raysIn s c ≤ ray) ⊎ (binsIn s c ≤ bin)
+refused-cut s i q a h p = p ∙ cut-refuses s i q .1 h
 
 abbrev pub BinReasons : List ℕ → ℕ → ℕ → ℕ → Refusal → Type 0
-BinReasons s i ray bin = Reason dualChecks dualFormat s i (Asking (BinWrong s ray bin))
+BinReasons s i ray bin = Reason dualChecks dualFormat s i (BinFault s ray bin)
 
 -- a cell is no refusal
 cell-answers : (x : Cell) (q : Refusal) → binOf x ≡ B.Refused q → ⊥
@@ -103,29 +94,15 @@ unfolding binOf
 cell-answers L.Missing q h = let z : _≡_ {A = ℕ} 0 1 = cc in omega arith
 cell-answers (L.Value y) q h = let z : _≡_ {A = ℕ} 0 1 = cc in omega arith
 
-pub bin-refused : (s : List ℕ) (i ray bin : ℕ) (q : Refusal) → BinPromise s i ray bin (B.Refused q) → BinReasons s i ray bin q
+bin-refuses : (s : List ℕ) (i ray bin : ℕ) (q : Refusal) → (binAnswer s i ray bin ≡ B.Refused q) ↔ BinReasons s i ray bin q
 unfolding binAnswer binOn
-bin-refused s i ray bin q p =
-    reason dualChecks dualFormat exact s B.Refused (binOn s ray bin) i (Asking (BinWrong s ray bin)) q (λ r e. cc e)
-    (λ c e. split c (ltb ray (raysIn s c)) (ltb bin (binsIn s c)) refl refl e)
-    (sym (p .answer))
-  where
-    split : (c : Cut) (t u : Bool) → ltb ray (raysIn s c) ≡ t → ltb bin (binsIn s c) ≡ u
-        → cond (t && u) (binOf (toldIn s c ray bin)) (B.Refused (refuse Argument 0)) ≡ B.Refused q → Asking (BinWrong s ray bin) c q
-    split c false u a b e = let same : refuse Argument 0 ≡ q = cc e in rw (sym same) (by-argument (inl (ltb-false _ _ a)))
-    split c true false a b e = let same : refuse Argument 0 ≡ q = cc e in rw (sym same) (by-argument (inr (ltb-false _ _ b)))
-    split c true true a b e = absurd (cell-answers _ q e)
+bin-refuses s i ray bin = refuses dualChecks dualFormat exact s i (λ c. bin-judges s ray bin c (binOf (toldIn s c ray bin)) (cell-answers _))
 
-bin-fault : (s : List ℕ) (ray bin : ℕ) (c : Cut) (r : Refusal) → Asking (BinWrong s ray bin) c r → binOn s ray bin c ≡ B.Refused r
-bin-fault s ray bin c r (by-argument (inl w)) = sym (no-ray s c ray bin w)
-bin-fault s ray bin c r (by-argument (inr w)) = sym (no-bin s c ray bin w)
-bin-fault s ray bin c r (by-room w x) = absurd x
-bin-fault s ray bin c r (by-record w x y) = absurd y
+pub bin-refused : (s : List ℕ) (i ray bin : ℕ) (q : Refusal) → BinPromise s i ray bin (B.Refused q) → BinReasons s i ray bin q
+bin-refused s i ray bin q p = bin-refuses s i ray bin q .0 (sym (p .answer))
 
 pub refused-bin : (s : List ℕ) (i ray bin : ℕ) (q : Refusal) (a : BinAnswer) → BinReasons s i ray bin q → BinPromise s i ray bin a → a ≡ B.Refused q
-unfolding binAnswer
-refused-bin s i ray bin q a h p =
-    p .answer ∙ by-reason dualChecks dualFormat exact s B.Refused (binOn s ray bin) i (Asking (BinWrong s ray bin)) q (bin-fault s ray bin) h
+refused-bin s i ray bin q a h p = p .answer ∙ bin-refuses s i ray bin q .1 h
 
 -- ── and they answer exactly where no reason to refuse holds ──
 
@@ -185,17 +162,17 @@ module _ (s : List ℕ) (cs : List Cut) (a : Accepted s cs) (i : ℕ) (lt : i < 
     answer-missing p = go (eqb (cellIn s cut ray bin) (2 ^ widthIn s cut - 1)) refl (bin-told B.Missing p)
       where
         go : (t : Bool) → eqb (cellIn s cut ray bin) (2 ^ widthIn s cut - 1) ≡ t
-            → B.Missing ≡ binOf (cond t L.Missing (L.Value (scaledValue (referenceIn s cut) (cellIn s cut ray bin) (binaryIn s cut) (decimalIn s cut))))
+            → B.Missing ≡ binOf (cond t L.Missing (L.Value (scaledValue (referenceIn s cut) (cellIn s cut ray bin) (binaryScaleIn s cut) (decimalScaleIn s cut))))
             → cellIn s cut ray bin ≡ 2 ^ widthIn s cut - 1
         go true e x = eqb-true _ _ e
         go false e x = let z : _≡_ {A = ℕ} 0 1 = cc in absurd (omega arith)
 
     -- any other cell is a number, and the right one: within |Y| / 2^51 of Y, and 0 where Y is 0
-    pub value-answer : (y : Float) → BinPromise s i ray bin (B.Value y) → Right y (referenceIn s cut) (cellIn s cut ray bin) (binaryIn s cut) (decimalIn s cut)
+    pub value-answer : (y : Float) → BinPromise s i ray bin (B.Value y) → Right y (referenceIn s cut) (cellIn s cut ray bin) (binaryScaleIn s cut) (decimalScaleIn s cut)
     value-answer y p = subst (λ (c : Cut). RightIn s ray bin c (B.Value y)) cut-is (p .near)
 
     pub number-answer : (r : BinAnswer) → BinPromise s i ray bin r → (cellIn s cut ray bin ≡ 2 ^ widthIn s cut - 1 → ⊥)
-        → r ≡ B.Value (scaledValue (referenceIn s cut) (cellIn s cut ray bin) (binaryIn s cut) (decimalIn s cut))
+        → r ≡ B.Value (scaledValue (referenceIn s cut) (cellIn s cut ray bin) (binaryScaleIn s cut) (decimalScaleIn s cut))
     unfolding toldIn cellOf binOf
     number-answer r p other = bin-told r p ∙ rw (ne-eqb _ _ other)
 

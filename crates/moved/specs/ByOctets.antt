@@ -1,4 +1,4 @@
--- A cut of a run-length packed file by the octets of its sections. (proofs/Told.antt: the calls tell this of it, wherever it stands.)
+-- A cut of a run-length packed file by the octets of its sections. (proofs/ByOctets.antt: the calls tell this of it, wherever it stands.)
 use Prim.Native.Nat.{ℕ, _+_, _*_}
 use mathlib.Core.List.{List}
 use lib.ListN.{drop}

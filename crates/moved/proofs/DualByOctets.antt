@@ -12,8 +12,8 @@ use Rattle.sections.specs.Verdict.{noCut}
 use Rattle.sections.specs.Parts.{binsIn, raysIn, gridAt}
 use Rattle.sections.specs.declared.Cut.{Cut}
 use Rattle.sections.proofs.Alike.{field-alike, bins-alike, rays-alike, grid-alike, parameter-alike}
-use Rattle.dual_format.specs.Fields.{siteAt, referenceAt, binaryAt, decimalAt, widthAt}
-use Rattle.dual_format.specs.Parts.{referenceIn, binaryIn, decimalIn, widthIn, cellIn, toldIn}
+use Rattle.dual_format.specs.Fields.{siteAt, referenceAt, binaryScaleAt, decimalScaleAt, widthAt}
+use Rattle.dual_format.specs.Parts.{referenceIn, binaryScaleIn, decimalScaleIn, widthIn, cellIn, toldIn}
 use Rattle.dual_format.specs.Good.{GoodCut}
 use Rattle.dual_format.specs.Accepted.{dualFormat, Accepted}
 use Rattle.dual_format.proofs.Alike.{lists-long, site-alike, reference-alike, width-alike}
@@ -21,10 +21,10 @@ use Rattle.dual_format.proofs.GoodCuts.{good-accepted}
 use Rattle.files.specs.File.{Parts, partsAt, Whole, firstFour}
 use Rattle.files.proofs.Section.{is-there}
 use Rattle.files.proofs.Each.{whole-at}
-use Rattle.moved.specs.DualTold.{cellBy, toldBy}
+use Rattle.moved.specs.DualByOctets.{cellBy, toldBy}
 
 -- all that the calls tell of a cut, by its octets alone
-pub record DualTold (s : List ℕ) (c : Cut) (p : Parts) : Type 0 where
+pub record DualByOctets (s : List ℕ) (c : Cut) (p : Parts) : Type 0 where
   pub bins : binsIn s c ≡ binsAt (p .three) 0
   pub rays : raysIn s c ≡ raysAt (p .three) 0
   pub grid : gridAt s (c .section3) ≡ gridAt (p .three) 0
@@ -40,9 +40,9 @@ cell-room n all w lt = let h : suc n * w ≤ all * w = mul-le-mul-right w lt in 
 cell-few : (ray bin nr nb : ℕ) → ray < nr → bin < nb → ray * nb + bin < nr * nb
 cell-few ray bin nr nb r b = let row : suc ray * nb ≤ nr * nb = mul-le-mul-right nb r in omega arith
 
-told : (s : List ℕ) (c : Cut) (first : List ℕ) → Whole dualFormat first (partsAt s c) → GoodCut s c → DualTold s c (partsAt s c)
-unfolding binsIn raysIn referenceIn binaryIn decimalIn widthIn cellIn toldIn binaryAt decimalAt
-told s c first w good =
+by-whole : (s : List ℕ) (c : Cut) (first : List ℕ) → Whole dualFormat first (partsAt s c) → GoodCut s c → DualByOctets s c (partsAt s c)
+unfolding binsIn raysIn referenceIn binaryScaleIn decimalScaleIn widthIn cellIn toldIn binaryScaleAt decimalScaleAt
+by-whole s c first w good =
     let p = partsAt s c in
     let due3 = w .three-is .long in
     let l3 = lists-long 58 53 54 (p .three) 0 (raysAt (p .three) 0) in
@@ -75,6 +75,6 @@ told s c first w good =
       tells = λ ray bin r b. (λ i. cellOf (width i) (reference i) (binary i) (decimal i) (cell ray bin r b i));
     }
 
-pub dual-told-at : (s : List ℕ) (cs : List Cut) → Accepted s cs → (i : ℕ) → i < length cs
-    → DualTold s (getD cs i noCut) (partsAt s (getD cs i noCut))
-dual-told-at s cs a i lt = told s (getD cs i noCut) (firstFour (map (partsAt s) cs)) (whole-at dualFormat s cs a i lt) (good-accepted s cs a i lt)
+pub dual-by-octets : (s : List ℕ) (cs : List Cut) → Accepted s cs → (i : ℕ) → i < length cs
+    → DualByOctets s (getD cs i noCut) (partsAt s (getD cs i noCut))
+dual-by-octets s cs a i lt = by-whole s (getD cs i noCut) (firstFour (map (partsAt s) cs)) (whole-at dualFormat s cs a i lt) (good-accepted s cs a i lt)
