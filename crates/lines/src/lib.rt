@@ -4,8 +4,8 @@
 use kinds::Numbered;
 ghost use mathlib.Core.Path.{_≡_};
 ghost use mathlib.Core.List.{_++_};
-ghost use Prim.Native.Nat.{_+_, _*_, _≤_};
-ghost use lib.ListN.{length};
+ghost use Prim.Native.Nat.{_+_, _*_, _≤_, _<_};
+ghost use lib.ListN.{length, getD};
 ghost use Rattle.kinds.specs.KindTable.{kindBy};
 ghost use Rattle.stretches.specs.Stretch.{perEntry};
 ghost use Rattle.lent.specs.Put.{Put};
@@ -46,6 +46,15 @@ fn put_named(out: &mut [u8], at: usize, name: &[u8], n: usize) -> usize
     put_decimal(out, a, n)
 }
 
+// The number in a word of entries, and what stands before it.
+fn put_word(out: &mut [u8], at: usize, name: &[u8], words: &[u32], k: usize) -> usize
+    requires { ⌜ (k < length (now words)) × (at + length (now name) + 20 ≤ length (now out)) ⌝ }
+    ensures { λ r. ⌜ Put (now (out .entry)) at (now (name .entry) ++ decimal (getD (now (words .entry)) k 0)) (now (out .exit)) r ⌝ }
+    ensures { λ r. ⌜ r ≤ at + length (now (name .entry)) + 20 ⌝ }
+{
+    put_named(out, at, name, as_usize(words[k]))
+}
+
 // The word of the kind that a number stands for, and the end of its line. A number that is no kind's has no word.
 fn put_kind(out: &mut [u8], at: usize, number: u32) -> usize
     requires { ⌜ at + 20 ≤ length (now out) ⌝ }
@@ -68,9 +77,9 @@ fn put_entry(out: &mut [u8], at: usize, words: &[u32], i: usize) -> usize
     ensures { λ r. ⌜ r ≤ at + entryRoom ⌝ }
 {
     let k = stretches::PER_ENTRY * i;
-    let a = put_named(out, at, b"", as_usize(words[k]));
-    let b = put_named(out, a, b" ", as_usize(words[k + 1]));
-    let c = put_named(out, b, b" ", as_usize(words[k + 2]));
+    let a = put_word(out, at, b"", words, k);
+    let b = put_word(out, a, b" ", words, k + 1);
+    let c = put_word(out, b, b" ", words, k + 2);
     put_kind(out, c, words[k + 3])
 }
 

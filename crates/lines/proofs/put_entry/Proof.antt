@@ -9,18 +9,16 @@ use Rattle.lines.proofs.put_entry.Tie as tie
 
 returns : tie.Need-returns
 returns c = let d = c .before .before .before .before .before .before .before in
-    let b = d .before .before .before .before .before .before .before in
-    let a = b .before .before .before .before .before .before .before in
-    let s = a .before .before .before .before .before .before .before in
+    let b = d .before .before .before .before .before in
+    let a = b .before .before .before .before .before in
+    let s = a .before .before .before .before .before in
     let k = c .before .before .put-kind in (
-      entry-put (entryIn (s .args .words .now) (s .args .i)) (a .put-named .ensures .0) (b .put-named2 .ensures .0) (d .put-named3 .ensures .0) (k .ensures .0)
-          (a .before .as-usize .ensures, b .before .as-usize2 .ensures, d .before .as-usize3 .ensures, refl),
-      omega (arith, a .put-named .ensures .1, b .put-named2 .ensures .1, d .put-named3 .ensures .1, k .ensures .1),
+      entry-put (entryIn (s .args .words .now) (s .args .i)) (a .put-word .ensures .0) (b .put-word2 .ensures .0) (d .put-word3 .ensures .0) (k .ensures .0) (refl, refl, refl, refl),
+      omega (arith, a .put-word .ensures .1, b .put-word2 .ensures .1, d .put-word3 .ensures .1, k .ensures .1),
     )
 
 pub put-entry-spec : {M : Type 1} → statement M
 put-entry-spec =
     tie.close (tie.spec (search needs) (search needs) (search needs) (search needs) (search needs)
     (search needs) (search needs) (search needs) (search needs) (search needs) (search needs) (search needs)
-    (search needs) (search needs) (search needs) (search needs) (search needs) (search needs) (search needs)
-    (search needs) (search needs) (search needs) (search needs) returns)
+    (search needs) (search needs) returns)
