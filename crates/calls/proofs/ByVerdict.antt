@@ -2,14 +2,12 @@
 -- reasons, once that is shown of what it says on a cut.
 use Prim.Native.Nat.{ℕ, _≤_, _<_}
 use mathlib.Core.Path.{_≡_, refl, sym, _∙_, ap, subst}
-use mathlib.Core.Logic.{_⊎_, inl, inr, ⊎-elim, _↔_}
+use mathlib.Core.Logic.{_↔_}
 use mathlib.Core.List.{List}
 use mathlib.Core.Bool.{Bool, true, false, cond}
-use native.Mathlib.Omega.{arith}
 use borrow.Author.Tests.{lt-ltb, le-ltb, ltb-true, ltb-false}
 use lib.Dec.{ltb}
 use lib.ListN.{length, getD}
-use lib.Ieee.{Float}
 use Rattle.sections.specs.Refusal.{refuse}
 use Rattle.sections.specs.Checks.{FormatChecks}
 use Rattle.sections.specs.Verdict.{Verdict, accepted, refused, verdictBy, noCut}
@@ -21,10 +19,6 @@ use Rattle.sections.specs.declared.Refusal.{Refusal}
 use Rattle.sections.specs.declared.Why.the-variants.{Argument}
 use Rattle.calls.specs.Cuts.{onFile, onCut}
 use Rattle.calls.specs.Reasons.{Reason, by-file, no-cut, on-cut}
-use Rattle.calls.specs.declared.RayAnswer.{RayAnswer}
-use Rattle.calls.specs.declared.RayAnswer.the-variants as R
-use Rattle.calls.specs.declared.BinAnswer.{BinAnswer}
-use Rattle.calls.specs.declared.BinAnswer.the-variants as B
 
 module _ (own : FormatChecks) (format : Format) (exact : Exact own format) (s : List ℕ) where
   -- ── a call on the whole file ──
@@ -48,6 +42,16 @@ module _ (own : FormatChecks) (format : Format) (exact : Exact own format) (s : 
         go : (v : Verdict) → verdictBy own s ≡ v → onFile bad some v ≡ a → P
         go (refused r) e x = kr r (exact .refused-only s r e) x
         go (accepted cs) e x = ks cs (exact .accepted-only s cs e) x
+
+    -- it answers, and does not refuse, exactly where the file is not refused
+    pub file-answers : (Answered : A → Type 0) → ((n : ℕ) (c : Cut) → Answered (some n c)) → ((q : Refusal) → Answered (bad q) → ⊥)
+        → Answered (onFile bad some (verdictBy own s)) ↔ ((q : Refusal) → RefusedBy own s q → ⊥)
+    unfolding onFile
+    file-answers Answered ok never = (λ h q w. never q (subst Answered (file-refused q w) h), λ none. go none (verdictBy own s) refl)
+      where
+        go : ((q : Refusal) → RefusedBy own s q → ⊥) → (v : Verdict) → verdictBy own s ≡ v → Answered (onFile bad some v)
+        go none (accepted cs) e = ok (length cs) (getD cs 0 noCut)
+        go none (refused r) e = absurd (none r (exact .refused-only s r e))
 
   -- ── a call on cut i ──
 
@@ -96,42 +100,3 @@ module _ (own : FormatChecks) (format : Format) (exact : Exact own format) (s : 
     by-reason q why (by-file h) = cut-refused Refused some i q h
     by-reason q why (no-cut {cs = cs} k le) = cut-missing Refused some i cs k le
     by-reason q why (on-cut {cs = cs} k lt w) = cut-accepted Refused some i cs k lt ∙ why (getD cs i noCut) q w
-
--- ── a call answers, and does not refuse, exactly where no reason to refuse holds: of any answer, and of reasons that are just those of its refusals ──
-
--- an answer is a refusal, or it is `Answered`
-pub record Answers {A : Type 0} (Refused : Refusal → A) (Answered : A → Type 0) : Type 0 where
-  pub one-of : (a : A) → Answered a ⊎ ((q : Refusal) × (a ≡ Refused q))
-  pub not-both : (q : Refusal) → Answered (Refused q) → ⊥
-
-module _ {A : Type 0} {Refused : Refusal → A} {Answered : A → Type 0} (k : Answers Refused Answered) (a : A) (Why : Refusal → Type 0) where
-  pub answers-exactly : ((q : Refusal) → a ≡ Refused q → Why q) → ((q : Refusal) → Why q → a ≡ Refused q) → Answered a ↔ ((q : Refusal) → Why q → ⊥)
-  answers-exactly why by = (
-    (λ h q w. k .not-both q (subst Answered (by q w) h)),
-    (λ none. ⊎-elim (λ h. h) (λ e. absurd (none (e .0) (why (e .0) (e .1)))) (k .one-of a)),
-  )
-
--- of the calls that fill lent memory, and of the bin calls
-
-pub ray-answers : Answers R.Refused (λ a. a ≡ R.Written)
-ray-answers = record { one-of = one-of; not-both = λ q e. let z : _≡_ {A = ℕ} 0 1 = cc e in omega arith }
-  where
-    one-of : (a : RayAnswer) → (a ≡ R.Written) ⊎ ((q : Refusal) × (a ≡ R.Refused q))
-    one-of R.Written = inl refl
-    one-of (R.Refused q) = inr (q, refl)
-
--- missing, or a value
-abbrev pub BinAnswered : BinAnswer → Type 0
-BinAnswered a = (a ≡ B.Missing) ⊎ ((x : Float) × (a ≡ B.Value x))
-
-pub bin-answers : Answers B.Refused BinAnswered
-bin-answers = record { one-of = one-of; not-both = not-both }
-  where
-    one-of : (a : BinAnswer) → BinAnswered a ⊎ ((q : Refusal) × (a ≡ B.Refused q))
-    one-of B.Missing = inl (inl refl)
-    one-of (B.Value x) = inl (inr (x, refl))
-    one-of (B.Refused q) = inr (q, refl)
-
-    not-both : (q : Refusal) → BinAnswered (B.Refused q) → ⊥
-    not-both q (inl e) = let z : _≡_ {A = ℕ} 0 1 = cc e in omega arith
-    not-both q (inr (x, e)) = let z : _≡_ {A = ℕ} 0 1 = cc e in omega arith

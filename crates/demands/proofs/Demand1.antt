@@ -1,33 +1,37 @@
 -- DEMAND 1. Any octets may be lent. Every call gives its answer or one numbered refusal with its place, by FORMAT.md, "Order of checks", and on a
 -- refusal no octet or word of a lent buffer has changed. Both ways: a call refuses so exactly where its reason holds (`polar` specs/Reasons.antt), and answers exactly where none does. (That every call ends and
 -- asks nothing: each function is proved, and none has a `requires`.) The idea: the answer is a function of the verdict, so it is taken apart by the verdict and then by each test.
-use Prim.Native.Nat.{ℕ, min}
+use Prim.Native.Nat.{ℕ, _≤_, _<_, min}
 use mathlib.Core.Path.{_≡_, refl, sym, _∙_, subst}
 use mathlib.Core.Logic.{_⊎_, inl, inr, _↔_}
 use mathlib.Core.List.{List}
-use mathlib.Core.Bool.{true}
+use mathlib.Core.Bool.{true, false, _&&_}
 use native.Mathlib.Omega.{arith}
+use lib.Dec.{ltb, leb}
 use lib.ListN.{length}
 use lib.IntN.{ℤ}
 use Rattle.sections.specs.Parts.{binsIn, raysIn}
+use Rattle.sections.specs.declared.Cut.{Cut}
 use Rattle.sections.specs.declared.Refusal.{Refusal}
 use Rattle.base_format.specs.Parts.{productIn, levelIn}
 use Rattle.base_format.specs.Checks.{baseChecks}
 use Rattle.base_format.specs.Verdict.{RefusedBy}
 use Rattle.base_format.specs.Accepted.{baseFormat}
 use Rattle.base_format.proofs.Exact.{exact}
+use Rattle.fraction.specs.Quotient.{hundredths}
 use Rattle.values.specs.Reading.{readingOf}
 use Rattle.values.specs.declared.Reading.{Reading}
 use Rattle.values.specs.declared.Reading.the-variants as N
 use Rattle.stretches.specs.Stretch.{perEntry}
-use Rattle.stretches.specs.Call.{rightT, rightPoint}
+use Rattle.stretches.specs.Call.{rightT, rightPoint, answerOf}
 use Rattle.stretches.specs.declared.Listing.{Listing}
+use Rattle.cuts.specs.Bins.{stretchesIn}
 use Rattle.calls.specs.declared.RayAnswer.{RayAnswer}
 use Rattle.calls.specs.declared.RayAnswer.the-variants as R
 use Rattle.calls.specs.declared.BinAnswer.{BinAnswer}
 use Rattle.calls.specs.declared.BinAnswer.the-variants as B
-use Rattle.calls.proofs.ByVerdict.{file-refused, by-file-verdict, Answers, answers-exactly, ray-answers, BinAnswered, bin-answers}
-use Rattle.calls.proofs.Judging.{refuses, never, not-le, not-both, bin-judges, ray-judges}
+use Rattle.calls.proofs.ByVerdict.{file-refused, by-file-verdict, file-answers}
+use Rattle.calls.proofs.Judging.{Judges, refuses, answers-exactly, never, not-le, not-both, ray-judges, BinAnswered, bin-judges}
 use Rattle.polar.specs.Opening.{summaryOf, openAnswer, infoOf, cutAnswer}
 use Rattle.polar.specs.Rays.{rayOn, rayAnswer, levelsAfter, marksAfter, valuesAfter, binOf, binOn, binAnswer}
 use Rattle.polar.specs.Stretching.{stretchesOn, stretchAnswer, wordsAfter}
@@ -58,11 +62,13 @@ refused-open s r a h p = p .answer ∙ file-refused baseChecks baseFormat exact 
 
 -- ── cut ──
 
+cut-judges : (s : List ℕ) (c : Cut) → Judges C.Refused (λ a. (m : CutInfo) × (a ≡ C.Cut m)) true true true (C.Cut (infoOf s c)) ⊥ ⊥ ⊥
+cut-judges s c =
+    record { wrong = never; short = never; unfit = never; answered = (infoOf s c, refl); not-refused = λ q h. let z : _≡_ {A = ℕ} 0 1 = cc (h .1) in omega arith; same = λ p q e. cc e }
+
 cut-refuses : (s : List ℕ) (i : ℕ) (q : Refusal) → (cutAnswer s i ≡ C.Refused q) ↔ CutReasons s i q
 unfolding cutAnswer
-cut-refuses s i =
-    refuses baseChecks baseFormat exact s i {answer = λ c. C.Cut (infoOf s c)}
-    (λ c. record { wrong = never; short = never; unfit = never; answers = λ q e. let z : _≡_ {A = ℕ} 0 1 = cc e in omega arith; same = λ p q e. cc e })
+cut-refuses s i = refuses baseChecks baseFormat exact s i (cut-judges s)
 
 pub cut-refused : (s : List ℕ) (i : ℕ) (q : Refusal) → CutPromise s i (C.Refused q) → CutReasons s i q
 cut-refused s i q p = cut-refuses s i q .0 (sym (p .answer))
@@ -95,15 +101,18 @@ module _ (s : List ℕ) (i ray : ℕ) (q : Refusal) where
 
 -- ── bin value ──
 
--- a reading is no refusal
-reading-answers : (x : Reading) (q : Refusal) → binOf x ≡ B.Refused q → ⊥
+-- a reading is answered
+reading-answered : (x : Reading) → BinAnswered (binOf x)
 unfolding binOf
-reading-answers N.Missing q h = let z : _≡_ {A = ℕ} 0 1 = cc in omega arith
-reading-answers (N.Number n) q h = let z : _≡_ {A = ℕ} 0 1 = cc in omega arith
+reading-answered N.Missing = inl refl
+reading-answered (N.Number z) = inr (hundredths z, refl)
+
+bin-judged : (s : List ℕ) (ray bin : ℕ) (c : Cut) → Judges B.Refused BinAnswered (ltb ray (raysIn s c) && ltb bin (binsIn s c)) true true (binOf (readingOf (productIn s c) (levelIn s c ray bin))) ((raysIn s c ≤ ray) ⊎ (binsIn s c ≤ bin)) ⊥ ⊥
+bin-judged s ray bin c = bin-judges s ray bin c _ (reading-answered _)
 
 bin-refuses : (s : List ℕ) (i ray bin : ℕ) (q : Refusal) → (binAnswer s i ray bin ≡ B.Refused q) ↔ BinReasons s i ray bin q
 unfolding binAnswer binOn
-bin-refuses s i ray bin = refuses baseChecks baseFormat exact s i (λ c. bin-judges s ray bin c (binOf (readingOf (productIn s c) (levelIn s c ray bin))) (reading-answers _))
+bin-refuses s i ray bin = refuses baseChecks baseFormat exact s i (bin-judged s ray bin)
 
 pub bin-refused : (s : List ℕ) (i ray bin : ℕ) (q : Refusal) → BinPromise s i ray bin (B.Refused q) → BinReasons s i ray bin q
 bin-refused s i ray bin q p = bin-refuses s i ray bin q .0 (sym (p .answer))
@@ -113,17 +122,22 @@ refused-bin s i ray bin q a h p = p .answer ∙ bin-refuses s i ray bin q .1 h
 
 -- ── stretches ──
 
-list-refuses : (s : List ℕ) (i : ℕ) (t : ℤ) (ray bin room : ℕ) (q : Refusal) → (stretchAnswer s i t ray bin room ≡ S.Refused q) ↔ ListReasons s i t ray bin room q
-unfolding stretchAnswer stretchesOn
-list-refuses s i t ray bin room =
-    refuses baseChecks baseFormat exact s i
-    (λ c. record {
-      wrong = not-both (rightT t) (rightPoint (binsIn s c) (raysIn s c) ray bin) (λ e. e, λ e. e) (λ e. e, λ e. e);
+list-judges : (s : List ℕ) (t : ℤ) (ray bin room : ℕ) (c : Cut)
+    → Judges S.Refused (λ a. (l : Listing) × (a ≡ S.Listed l)) (rightT t && rightPoint (binsIn s c) (raysIn s c) ray bin) (leb perEntry room) true
+    (S.Listed (answerOf (raysIn s c) room (stretchesIn s c t ray bin))) ((rightT t ≡ false) ⊎ (rightPoint (binsIn s c) (raysIn s c) ray bin ≡ false)) (room < perEntry) ⊥
+list-judges s t ray bin room c =
+    record {
+      wrong = not-both _ _ (λ e. e, λ e. e) (λ e. e, λ e. e);
       short = not-le perEntry room;
       unfit = never;
-      answers = λ q e. let z : _≡_ {A = ℕ} 0 1 = cc e in omega arith;
+      answered = (_, refl);
+      not-refused = λ q h. let z : _≡_ {A = ℕ} 0 1 = cc (h .1) in omega arith;
       same = λ p q e. cc e;
-    })
+    }
+
+list-refuses : (s : List ℕ) (i : ℕ) (t : ℤ) (ray bin room : ℕ) (q : Refusal) → (stretchAnswer s i t ray bin room ≡ S.Refused q) ↔ ListReasons s i t ray bin room q
+unfolding stretchAnswer stretchesOn
+list-refuses s i t ray bin room = refuses baseChecks baseFormat exact s i (list-judges s t ray bin room)
 
 module _ (s : List ℕ) (i : ℕ) (t : ℤ) (ray bin : ℕ) (words words′ : List ℕ) (q : Refusal) where
   pub stretches-refused : StretchesPromise s i t ray bin words (S.Refused q) words′ → ListReasons s i t ray bin (length words) q × (words′ ≡ words)
@@ -135,56 +149,33 @@ module _ (s : List ℕ) (i : ℕ) (t : ℤ) (ray bin : ℕ) (words words′ : Li
 
 -- ── and it answers exactly where no reason to refuse holds ──
 
-open-answers : Answers O.Refused (λ a. (m : Summary) × (a ≡ O.File m))
-open-answers = record { one-of = one-of; not-both = λ q h. let z : _≡_ {A = ℕ} 0 1 = cc (h .1) in omega arith }
-  where
-    one-of : (a : Opened) → ((m : Summary) × (a ≡ O.File m)) ⊎ ((q : Refusal) × (a ≡ O.Refused q))
-    one-of (O.File m) = inl (m, refl)
-    one-of (O.Refused q) = inr (q, refl)
-
-cut-answers : Answers C.Refused (λ a. (m : CutInfo) × (a ≡ C.Cut m))
-cut-answers = record { one-of = one-of; not-both = λ q h. let z : _≡_ {A = ℕ} 0 1 = cc (h .1) in omega arith }
-  where
-    one-of : (a : CutAnswer) → ((m : CutInfo) × (a ≡ C.Cut m)) ⊎ ((q : Refusal) × (a ≡ C.Refused q))
-    one-of (C.Cut m) = inl (m, refl)
-    one-of (C.Refused q) = inr (q, refl)
-
-list-answers : Answers S.Refused (λ a. (m : Listing) × (a ≡ S.Listed m))
-list-answers = record { one-of = one-of; not-both = λ q h. let z : _≡_ {A = ℕ} 0 1 = cc (h .1) in omega arith }
-  where
-    one-of : (a : StretchAnswer) → ((m : Listing) × (a ≡ S.Listed m)) ⊎ ((q : Refusal) × (a ≡ S.Refused q))
-    one-of (S.Listed m) = inl (m, refl)
-    one-of (S.Refused q) = inr (q, refl)
-
 module _ (s : List ℕ) where
   pub open-answered : (a : Opened) → OpenPromise s a → ((m : Summary) × (a ≡ O.File m)) ↔ ((q : Refusal) → RefusedBy s q → ⊥)
-  open-answered a p = answers-exactly open-answers a (RefusedBy s) (λ q e. open-refused s q (subst (OpenPromise s) e p)) (λ q w. refused-open s q a w p)
+  unfolding openAnswer
+  open-answered a p =
+      rw (p .answer)
+      (file-answers baseChecks baseFormat exact s _ _ (λ x. (m : Summary) × (x ≡ O.File m)) (λ n c. (_, refl)) (λ q h. let z : _≡_ {A = ℕ} 0 1 = cc (h .1) in omega arith))
 
   pub cut-answered : (i : ℕ) (a : CutAnswer) → CutPromise s i a → ((m : CutInfo) × (a ≡ C.Cut m)) ↔ ((q : Refusal) → CutReasons s i q → ⊥)
-  cut-answered i a p = answers-exactly cut-answers a (CutReasons s i) (λ q e. cut-refused s i q (subst (CutPromise s i) e p)) (λ q w. refused-cut s i q a w p)
+  unfolding cutAnswer
+  cut-answered i a p = rw (p .answer) (answers-exactly baseChecks baseFormat exact s i (cut-judges s))
+
+  ray-answers : (i ray room : ℕ) → (rayAnswer s i ray room ≡ R.Written) ↔ ((q : Refusal) → RayReasons s i ray room q → ⊥)
+  unfolding rayAnswer rayOn
+  ray-answers i ray room = answers-exactly baseChecks baseFormat exact s i (λ c. ray-judges s ray room c true never)
 
   pub levels-answered : (i ray : ℕ) (out out′ : List ℕ) (a : RayAnswer) → LevelsPromise s i ray out a out′ → (a ≡ R.Written) ↔ ((q : Refusal) → RayReasons s i ray (length out) q → ⊥)
-  levels-answered i ray out out′ a p =
-      answers-exactly ray-answers a (RayReasons s i ray (length out))
-      (λ q e. levels-refused s i ray q out out′ (subst (λ (x : RayAnswer). LevelsPromise s i ray out x out′) e p) .0)
-      (λ q w. refused-levels s i ray q out out′ a w p)
+  levels-answered i ray out out′ a p = rw (p .answer) (ray-answers i ray (length out))
 
   pub values-answered : (i ray : ℕ) (marks marks′ : List ℕ) (values values′ : List ℤ) (a : RayAnswer) → ValuesPromise s i ray marks values a marks′ values′
       → (a ≡ R.Written) ↔ ((q : Refusal) → RayReasons s i ray (min (length marks) (length values)) q → ⊥)
-  values-answered i ray marks marks′ values values′ a p =
-      answers-exactly ray-answers a (RayReasons s i ray (min (length marks) (length values)))
-      (λ q e. values-refused s i ray q marks marks′ values values′ (subst (λ (x : RayAnswer). ValuesPromise s i ray marks values x marks′ values′) e p) .0)
-      (λ q w. refused-values s i ray q marks marks′ values values′ a w p)
+  values-answered i ray marks marks′ values values′ a p = rw (p .answer) (ray-answers i ray (min (length marks) (length values)))
 
   pub bin-answered : (i ray bin : ℕ) (a : BinAnswer) → BinPromise s i ray bin a → BinAnswered a ↔ ((q : Refusal) → BinReasons s i ray bin q → ⊥)
-  bin-answered i ray bin a p =
-      answers-exactly bin-answers a (BinReasons s i ray bin)
-      (λ q e. bin-refused s i ray bin q (subst (BinPromise s i ray bin) e p))
-      (λ q w. refused-bin s i ray bin q a w p)
+  unfolding binAnswer binOn
+  bin-answered i ray bin a p = rw (p .answer) (answers-exactly baseChecks baseFormat exact s i (bin-judged s ray bin))
 
   pub stretches-answered : (i : ℕ) (t : ℤ) (ray bin : ℕ) (words words′ : List ℕ) (a : StretchAnswer) → StretchesPromise s i t ray bin words a words′
       → ((l : Listing) × (a ≡ S.Listed l)) ↔ ((q : Refusal) → ListReasons s i t ray bin (length words) q → ⊥)
-  stretches-answered i t ray bin words words′ a p =
-      answers-exactly list-answers a (ListReasons s i t ray bin (length words))
-      (λ q e. stretches-refused s i t ray bin words words′ q (subst (λ (x : StretchAnswer). StretchesPromise s i t ray bin words x words′) e p) .0)
-      (λ q w. refused-stretches s i t ray bin words words′ q a w p)
+  unfolding stretchAnswer stretchesOn
+  stretches-answered i t ray bin words words′ a p = rw (p .answer) (answers-exactly baseChecks baseFormat exact s i (list-judges s t ray bin (length words)))

@@ -1,14 +1,14 @@
 -- THE THEOREMS of the calls of a dual-polarisation file, over their promises: a file is accepted exactly when none of the format's refusals applies, a refusal
 -- is by the format's order, a missing cell is never a number, and a number is within |Y| / 2^51 of the exact one. Each promise allows one answer.
 -- The idea: the answer is a function of the verdict, which is exact, and of the cell.
-use Prim.Native.Nat.{ℕ, _-_, _^_, _<_}
+use Prim.Native.Nat.{ℕ, _-_, _^_, _≤_, _<_}
 use mathlib.Core.Path.{_≡_, refl, sym, _∙_, ap, subst}
 use mathlib.Core.Logic.{_⊎_, inl, inr, _↔_}
 use mathlib.Core.List.{List}
-use mathlib.Core.Bool.{Bool, true, false, cond}
+use mathlib.Core.Bool.{Bool, true, false, cond, _&&_}
 use native.Mathlib.Omega.{arith}
 use borrow.Author.Tests.{lt-ltb, eqb-true, eq-eqb, ne-eqb}
-use lib.Dec.{eqb}
+use lib.Dec.{ltb, eqb}
 use lib.ListN.{length, getD}
 use lib.Ieee.{Float}
 use Rattle.scaled.specs.Scaled.{Right, cellOf, scaledValue}
@@ -28,8 +28,8 @@ use Rattle.calls.specs.Cuts.{cutAt}
 use Rattle.calls.specs.Reasons.{Reason, Asking, BinFault}
 use Rattle.calls.specs.declared.BinAnswer.{BinAnswer}
 use Rattle.calls.specs.declared.BinAnswer.the-variants as B
-use Rattle.calls.proofs.ByVerdict.{file-refused, file-accepted, by-file-verdict, cut-accepted, Answers, answers-exactly, BinAnswered, bin-answers}
-use Rattle.calls.proofs.Judging.{refuses, never, bin-judges}
+use Rattle.calls.proofs.ByVerdict.{file-refused, file-accepted, by-file-verdict, cut-accepted, file-answers}
+use Rattle.calls.proofs.Judging.{Judges, refuses, answers-exactly, never, BinAnswered, bin-judges}
 use Rattle.dualpol.specs.Answers.{summaryOf, openAnswer, OpenPromise, cutAnswer, CutPromise, binOf, binOn, binAnswer, RightIn, BinPromise}
 use Rattle.dualpol.specs.declared.DualSummary.{DualSummary}
 use Rattle.dualpol.specs.declared.DualOpened.{DualOpened}
@@ -73,11 +73,13 @@ open-accepted s m p =
 abbrev pub CutReasons : List ℕ → ℕ → Refusal → Type 0
 CutReasons s i = Reason dualChecks dualFormat s i (Asking (λ c. ⊥))
 
+cut-judges : (s : List ℕ) (c : Cut) → Judges C.Refused (λ a. (m : Grid) × (a ≡ C.Cut m)) true true true (C.Cut (gridAt s (c .section3))) ⊥ ⊥ ⊥
+cut-judges s c =
+    record { wrong = never; short = never; unfit = never; answered = (_, refl); not-refused = λ q h. let z : _≡_ {A = ℕ} 0 1 = cc (h .1) in omega arith; same = λ p q e. cc e }
+
 cut-refuses : (s : List ℕ) (i : ℕ) (q : Refusal) → (cutAnswer s i ≡ C.Refused q) ↔ CutReasons s i q
 unfolding cutAnswer
-cut-refuses s i =
-    refuses dualChecks dualFormat exact s i {answer = λ c. C.Cut (gridAt s (c .section3))}
-    (λ c. record { wrong = never; short = never; unfit = never; answers = λ q e. let z : _≡_ {A = ℕ} 0 1 = cc e in omega arith; same = λ p q e. cc e })
+cut-refuses s i = refuses dualChecks dualFormat exact s i (cut-judges s)
 
 pub cut-refused : (s : List ℕ) (i : ℕ) (q : Refusal) → CutPromise s i (C.Refused q) → CutReasons s i q
 cut-refused s i q p = cut-refuses s i q .0 (sym p)
@@ -88,15 +90,18 @@ refused-cut s i q a h p = p ∙ cut-refuses s i q .1 h
 abbrev pub BinReasons : List ℕ → ℕ → ℕ → ℕ → Refusal → Type 0
 BinReasons s i ray bin = Reason dualChecks dualFormat s i (BinFault s ray bin)
 
--- a cell is no refusal
-cell-answers : (x : Cell) (q : Refusal) → binOf x ≡ B.Refused q → ⊥
+-- a cell is answered
+cell-answered : (x : Cell) → BinAnswered (binOf x)
 unfolding binOf
-cell-answers L.Missing q h = let z : _≡_ {A = ℕ} 0 1 = cc in omega arith
-cell-answers (L.Value y) q h = let z : _≡_ {A = ℕ} 0 1 = cc in omega arith
+cell-answered L.Missing = inl refl
+cell-answered (L.Value y) = inr (y, refl)
+
+bin-judged : (s : List ℕ) (ray bin : ℕ) (c : Cut) → Judges B.Refused BinAnswered (ltb ray (raysIn s c) && ltb bin (binsIn s c)) true true (binOf (toldIn s c ray bin)) ((raysIn s c ≤ ray) ⊎ (binsIn s c ≤ bin)) ⊥ ⊥
+bin-judged s ray bin c = bin-judges s ray bin c _ (cell-answered _)
 
 bin-refuses : (s : List ℕ) (i ray bin : ℕ) (q : Refusal) → (binAnswer s i ray bin ≡ B.Refused q) ↔ BinReasons s i ray bin q
 unfolding binAnswer binOn
-bin-refuses s i ray bin = refuses dualChecks dualFormat exact s i (λ c. bin-judges s ray bin c (binOf (toldIn s c ray bin)) (cell-answers _))
+bin-refuses s i ray bin = refuses dualChecks dualFormat exact s i (bin-judged s ray bin)
 
 pub bin-refused : (s : List ℕ) (i ray bin : ℕ) (q : Refusal) → BinPromise s i ray bin (B.Refused q) → BinReasons s i ray bin q
 bin-refused s i ray bin q p = bin-refuses s i ray bin q .0 (sym (p .answer))
@@ -106,32 +111,20 @@ refused-bin s i ray bin q a h p = p .answer ∙ bin-refuses s i ray bin q .1 h
 
 -- ── and they answer exactly where no reason to refuse holds ──
 
-open-answers : Answers O.Refused (λ a. (m : DualSummary) × (a ≡ O.File m))
-open-answers = record { one-of = one-of; not-both = λ q h. let z : _≡_ {A = ℕ} 0 1 = cc (h .1) in omega arith }
-  where
-    one-of : (a : DualOpened) → ((m : DualSummary) × (a ≡ O.File m)) ⊎ ((q : Refusal) × (a ≡ O.Refused q))
-    one-of (O.File m) = inl (m, refl)
-    one-of (O.Refused q) = inr (q, refl)
-
-grid-answers : Answers C.Refused (λ a. (m : Grid) × (a ≡ C.Cut m))
-grid-answers = record { one-of = one-of; not-both = λ q h. let z : _≡_ {A = ℕ} 0 1 = cc (h .1) in omega arith }
-  where
-    one-of : (a : DualCut) → ((m : Grid) × (a ≡ C.Cut m)) ⊎ ((q : Refusal) × (a ≡ C.Refused q))
-    one-of (C.Cut m) = inl (m, refl)
-    one-of (C.Refused q) = inr (q, refl)
-
 module _ (s : List ℕ) where
   pub open-answered : (a : DualOpened) → OpenPromise s a → ((m : DualSummary) × (a ≡ O.File m)) ↔ ((q : Refusal) → RefusedBy s q → ⊥)
-  open-answered a p = answers-exactly open-answers a (RefusedBy s) (λ q e. open-refused s q (subst (OpenPromise s) e p)) (λ q w. refused-open s q a w p)
+  unfolding openAnswer
+  open-answered a p =
+      rw p
+      (file-answers dualChecks dualFormat exact s _ _ (λ x. (m : DualSummary) × (x ≡ O.File m)) (λ n c. (_, refl)) (λ q h. let z : _≡_ {A = ℕ} 0 1 = cc (h .1) in omega arith))
 
   pub cut-answered : (i : ℕ) (a : DualCut) → CutPromise s i a → ((m : Grid) × (a ≡ C.Cut m)) ↔ ((q : Refusal) → CutReasons s i q → ⊥)
-  cut-answered i a p = answers-exactly grid-answers a (CutReasons s i) (λ q e. cut-refused s i q (subst (CutPromise s i) e p)) (λ q w. refused-cut s i q a w p)
+  unfolding cutAnswer
+  cut-answered i a p = rw p (answers-exactly dualChecks dualFormat exact s i (cut-judges s))
 
   pub bin-answered : (i ray bin : ℕ) (a : BinAnswer) → BinPromise s i ray bin a → BinAnswered a ↔ ((q : Refusal) → BinReasons s i ray bin q → ⊥)
-  bin-answered i ray bin a p =
-      answers-exactly bin-answers a (BinReasons s i ray bin)
-      (λ q e. bin-refused s i ray bin q (subst (BinPromise s i ray bin) e p))
-      (λ q w. refused-bin s i ray bin q a w p)
+  unfolding binAnswer binOn
+  bin-answered i ray bin a p = rw (p .answer) (answers-exactly dualChecks dualFormat exact s i (bin-judged s ray bin))
 
 -- ── a cut of an accepted file ──
 

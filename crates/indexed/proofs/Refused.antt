@@ -1,18 +1,20 @@
 -- FORMAT.md, "Rays by a record", the refusals, both ways: a call refuses by exactly the reasons of `records` specs/Reasons.antt, and answers exactly where none of them holds; then no lent memory has changed; by a record it never refuses by 8.
 -- The idea: the answer is a function of the verdict and of three tests.
-use Prim.Native.Nat.{ℕ, min}
-use mathlib.Core.Path.{_≡_, refl, sym, _∙_, subst}
+use Prim.Native.Nat.{ℕ, _≤_, _<_, min}
+use mathlib.Core.Path.{_≡_, refl, sym, _∙_}
 use mathlib.Core.Logic.{_↔_}
-use mathlib.Core.Bool.{false}
+use mathlib.Core.Bool.{true, false}
 use mathlib.Core.List.{List}
 use native.Mathlib.Omega.{arith}
-use lib.Dec.{eqb}
+use lib.Dec.{ltb, leb, eqb}
 use lib.ListN.{length}
 use lib.IntN.{ℤ}
 use Rattle.index.specs.declared.RayRecord.{RayRecord}
 use Rattle.sections.specs.Refusal.{refuse, numberOf}
-use Rattle.sections.specs.Parts.{raysIn}
+use Rattle.sections.specs.Parts.{binsIn, raysIn}
+use Rattle.sections.specs.declared.Cut.{Cut}
 use Rattle.sections.specs.declared.Refusal.{Refusal}
+use Rattle.base_format.specs.Parts.{dataAt, greatestIn}
 use Rattle.base_format.specs.Checks.{baseChecks, anyDataChecks}
 use Rattle.base_format.specs.Accepted.{baseFormat, anyDataFormat}
 use Rattle.base_format.proofs.Exact.{exact, any-exact}
@@ -21,17 +23,21 @@ use Rattle.cuts.specs.Records.{usableIn}
 use Rattle.calls.specs.Reasons.{by-file, no-cut, on-cut, by-argument, by-room, by-record}
 use Rattle.calls.specs.declared.RayAnswer.{RayAnswer}
 use Rattle.calls.specs.declared.RayAnswer.the-variants.{Written, Refused}
-use Rattle.calls.proofs.ByVerdict.{answers-exactly, ray-answers}
-use Rattle.calls.proofs.Judging.{refuses, never, not-le, ray-judges}
+use Rattle.calls.proofs.Judging.{Judges, refuses, answers-exactly, never, not-le, ray-judges}
 use Rattle.records.specs.Records.{fromOn, fromAnswer, levelsFrom, marksFrom, valuesFrom, buildOn, buildAnswer, rowAfter}
 use Rattle.records.specs.Promises.{BuildPromise, LevelsFromPromise, ValuesFromPromise}
-use Rattle.records.specs.Reasons.{BuildReasons, FromReasons}
+use Rattle.records.specs.Reasons.{BuildReasons, Unfit, FromReasons}
 use Rattle.indexed.proofs.Unfit.{unfit-not, not-unfit}
 
+from-judges : (s : List ℕ) (ray room : ℕ) (rec : RayRecord) (c : Cut)
+    → Judges Refused (λ a. a ≡ Written) (ltb ray (raysIn s c)) (leb (binsIn s c) room) (usableIn s c rec) Written (raysIn s c ≤ ray) (room < binsIn s c)
+    (Unfit (greatestIn s c) (binsIn s c) (dataAt s (c .section7)) rec)
+unfolding usableIn
+from-judges s ray room rec c = ray-judges s ray room c (usableIn s c rec) (not-unfit _ _ _ rec, unfit-not _ _ _ rec)
+
 from-refuses : (s : List ℕ) (i ray room : ℕ) (rec : RayRecord) (q : Refusal) → (fromAnswer s i ray rec room ≡ Refused q) ↔ FromReasons s i ray room rec q
-unfolding fromAnswer fromOn usableIn
-from-refuses s i ray room rec =
-    refuses anyDataChecks anyDataFormat any-exact s i (λ c. ray-judges s ray room c (usableIn s c rec) (not-unfit _ _ _ rec, unfit-not _ _ _ rec))
+unfolding fromAnswer fromOn
+from-refuses s i ray room rec = refuses anyDataChecks anyDataFormat any-exact s i (from-judges s ray room rec)
 
 -- ── ray levels by a record ──
 
@@ -67,11 +73,13 @@ module _ (s : List ℕ) (i ray : ℕ) (rec : RayRecord) where
 
 -- ── building ──
 
+build-judges : (s : List ℕ) (room : ℕ) (c : Cut) → Judges Refused (λ a. a ≡ Written) true (leb (raysIn s c) room) true Written ⊥ (room < raysIn s c) ⊥
+build-judges s room c =
+    record { wrong = never; short = not-le (raysIn s c) room; unfit = never; answered = refl; not-refused = λ q e. let z : _≡_ {A = ℕ} 0 1 = cc e in omega arith; same = λ p q e. cc e }
+
 build-refuses : (s : List ℕ) (i room : ℕ) (q : Refusal) → (buildAnswer s i room ≡ Refused q) ↔ BuildReasons s i room q
 unfolding buildAnswer buildOn
-build-refuses s i room =
-    refuses baseChecks baseFormat exact s i
-    (λ c. record { wrong = never; short = not-le (raysIn s c) room; unfit = never; answers = λ q e. let z : _≡_ {A = ℕ} 0 1 = cc e in omega arith; same = λ p q e. cc e })
+build-refuses s i room = refuses baseChecks baseFormat exact s i (build-judges s room)
 
 module _ (s : List ℕ) (i : ℕ) (q : Refusal) (row row′ : List RayRecord) where
   pub build-refused : BuildPromise s i row (Refused q) row′ → BuildReasons s i (length row) q × (row′ ≡ row)
@@ -84,22 +92,18 @@ module _ (s : List ℕ) (i : ℕ) (q : Refusal) (row row′ : List RayRecord) wh
 -- ── and each answers exactly where no reason to refuse holds ──
 
 module _ (s : List ℕ) (i : ℕ) where
+  from-answers : (ray room : ℕ) (rec : RayRecord) → (fromAnswer s i ray rec room ≡ Written) ↔ ((q : Refusal) → FromReasons s i ray room rec q → ⊥)
+  unfolding fromAnswer fromOn
+  from-answers ray room rec = answers-exactly anyDataChecks anyDataFormat any-exact s i (from-judges s ray room rec)
+
   pub levels-from-answered : (ray : ℕ) (rec : RayRecord) (out out′ : List ℕ) (a : RayAnswer) → LevelsFromPromise s i ray rec out a out′
       → (a ≡ Written) ↔ ((q : Refusal) → FromReasons s i ray (length out) rec q → ⊥)
-  levels-from-answered ray rec out out′ a p =
-      answers-exactly ray-answers a (FromReasons s i ray (length out) rec)
-      (λ q e. levels-from-refused s i ray rec q out out′ (subst (λ (x : RayAnswer). LevelsFromPromise s i ray rec out x out′) e p) .0)
-      (λ q w. refused-levels-from s i ray rec q out out′ a w p)
+  levels-from-answered ray rec out out′ a p = rw (p .answer) (from-answers ray (length out) rec)
 
   pub values-from-answered : (ray : ℕ) (rec : RayRecord) (marks marks′ : List ℕ) (values values′ : List ℤ) (a : RayAnswer) → ValuesFromPromise s i ray rec marks values a marks′ values′
       → (a ≡ Written) ↔ ((q : Refusal) → FromReasons s i ray (min (length marks) (length values)) rec q → ⊥)
-  values-from-answered ray rec marks marks′ values values′ a p =
-      answers-exactly ray-answers a (FromReasons s i ray (min (length marks) (length values)) rec)
-      (λ q e. values-from-refused s i ray rec q marks marks′ values values′ (subst (λ (x : RayAnswer). ValuesFromPromise s i ray rec marks values x marks′ values′) e p) .0)
-      (λ q w. refused-values-from s i ray rec q marks marks′ values values′ a w p)
+  values-from-answered ray rec marks marks′ values values′ a p = rw (p .answer) (from-answers ray (min (length marks) (length values)) rec)
 
   pub build-answered : (row row′ : List RayRecord) (a : RayAnswer) → BuildPromise s i row a row′ → (a ≡ Written) ↔ ((q : Refusal) → BuildReasons s i (length row) q → ⊥)
-  build-answered row row′ a p =
-      answers-exactly ray-answers a (BuildReasons s i (length row))
-      (λ q e. build-refused s i q row row′ (subst (λ (x : RayAnswer). BuildPromise s i row x row′) e p) .0)
-      (λ q w. refused-build s i q row row′ a w p)
+  unfolding buildAnswer buildOn
+  build-answered row row′ a p = rw (p .answer) (answers-exactly baseChecks baseFormat exact s i (build-judges s (length row)))

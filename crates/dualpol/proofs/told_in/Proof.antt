@@ -1,5 +1,6 @@
 -- The packing of a good cut is one that cells are told by, and its cells are few.
-use Rattle.sections.specs.Parts.{raysIn}
+use Prim.Native.Nat.{ℕ, _+_, _*_, _≤_}
+use Rattle.sections.specs.Parts.{binsIn, raysIn}
 use Rattle.dual_format.specs.Fields.{referenceAt, binaryScaleAt, decimalScaleAt, widthAt}
 use Rattle.dual_format.specs.Parts.{referenceIn, binaryScaleIn, decimalScaleIn, widthIn, cellIn, toldIn}
 use Rattle.dualpol.proofs.Cells.{few-cells}
@@ -11,24 +12,27 @@ use borrow.Author.Needs.{needs}
 use Rattle.dualpol.proofs.told_in.Statement.{statement}
 use Rattle.dualpol.proofs.told_in.Tie as tie
 
+cells-few : (s : tie.Start) (nb : ℕ) → nb ≡ binsIn (now (s .args .file)) (s .args .c) → s .args .ray * nb + s .args .bin ≤ 2097152
+cells-few s nb e = few-cells (s .args .ray) (s .args .bin) (raysIn (now (s .args .file)) (s .args .c)) nb (s .pre .1) (omega (arith, s .pre .2)) (s .pre .0 .rays-few) (omega (arith, s .pre .0 .bins-few))
+
 mul-n : tie.Need-mul-n
-mul-n c = record { fits = omega (arith, few-cells (c .before .before .before .before .before .before .args .ray) (c .before .before .before .before .before .before .args .bin) (raysIn (now (c .before .before .before .before .before .before .args .file)) (c .before .before .before .before .before .before .args .c)) (c .bins-in .result) (c .before .before .before .before .before .before .pre .1) (omega (arith, c .bins-in .ensures, c .before .before .before .before .before .before .pre .2)) (c .before .before .before .before .before .before .pre .0 .rays-few) (omega (arith, c .bins-in .ensures, c .before .before .before .before .before .before .pre .0 .bins-few))) }
+mul-n c = let s : tie.Start = search in record { fits = omega (arith, cells-few s (c .bins-in .result) (c .bins-in .ensures)) }
 
 add-n : tie.Need-add-n
-add-n c = record { fits = omega (arith, few-cells (c .before .before .before .before .before .before .args .ray) (c .before .before .before .before .before .before .args .bin) (raysIn (now (c .before .before .before .before .before .before .args .file)) (c .before .before .before .before .before .before .args .c)) (c .bins-in .result) (c .before .before .before .before .before .before .pre .1) (omega (arith, c .bins-in .ensures, c .before .before .before .before .before .before .pre .2)) (c .before .before .before .before .before .before .pre .0 .rays-few) (omega (arith, c .bins-in .ensures, c .before .before .before .before .before .before .pre .0 .bins-few))) }
+add-n c = let s : tie.Start = search in record { fits = omega (arith, cells-few s (c .bins-in .result) (c .bins-in .ensures)) }
 
 cell-at-requires : tie.Need-cell-at-requires
 unfolding widthIn widthAt
-cell-at-requires c κs = let g = c .before .before .before .before .before .before .pre .0 in (omega (arith, g .inside), few-cells (c .before .before .before .before .before .before .args .ray) (c .before .before .before .before .before .before .args .bin) (raysIn (now (c .before .before .before .before .before .before .args .file)) (c .before .before .before .before .before .before .args .c)) (c .bins-in .result) (c .before .before .before .before .before .before .pre .1) (omega (arith, c .bins-in .ensures, c .before .before .before .before .before .before .pre .2)) (c .before .before .before .before .before .before .pre .0 .rays-few) (omega (arith, c .bins-in .ensures, c .before .before .before .before .before .before .pre .0 .bins-few)), rw (c .before .width-at .ensures) (g .packing .cells))
+cell-at-requires c κs = let s : tie.Start = search in let g = s .pre .0 in (omega (arith, g .inside), cells-few s (c .bins-in .result) (c .bins-in .ensures), rw (c .before .width-at .ensures) (g .packing .cells))
 
 cell-of-requires : tie.Need-cell-of-requires
 unfolding referenceIn referenceAt binaryScaleIn binaryScaleAt decimalScaleIn decimalScaleAt widthIn widthAt
-cell-of-requires c κs = rw (c .before .before .before .before .before .reference-at .ensures, c .before .before .before .before .binary-scale-at .ensures, c .before .before .before .decimal-scale-at .ensures, c .before .before .width-at .ensures) (c .before .before .before .before .before .before .before .pre .0 .packing)
+cell-of-requires c κs = let s : tie.Start = search in rw (c .before .before .before .before .before .reference-at .ensures, c .before .before .before .before .binary-scale-at .ensures, c .before .before .before .decimal-scale-at .ensures, c .before .before .width-at .ensures) (s .pre .0 .packing)
 
 returns : tie.Need-returns
 unfolding toldIn cellIn referenceIn referenceAt binaryScaleIn binaryScaleAt decimalScaleIn decimalScaleAt widthIn widthAt
-returns c =
-    let a = c .before .before .before .before .before .before .before .before .args in
+returns c = let s' : tie.Start = search in
+    let a = s' .args in
     let s = now (a .file) in
     let z : c .before .cell-at .result ≡ cellIn s (a .c) (a .ray) (a .bin) = cc in
     (cc, right-at (c .cell-of .result) (c .before .before .before .before .before .before .reference-at .ensures) z (c .before .before .before .before .before .binary-scale-at .ensures) (c .before .before .before .before .decimal-scale-at .ensures) (c .cell-of .ensures .1))

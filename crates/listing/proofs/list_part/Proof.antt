@@ -6,10 +6,10 @@ use Rattle.listing.proofs.list_part.Statement.{statement}
 use Rattle.listing.proofs.list_part.Tie as tie
 
 list-into-requires : tie.Need-list-into-requires
-list-into-requires c κs = let s = c .before .before .before .before in (good-cut (s .args .file .now) (s .args .part) (s .pre .0), s .pre .0 .point)
+list-into-requires c κs = let s : tie.Start = search in (good-cut (s .args .file .now) (s .args .part) (s .pre .0), s .pre .0 .point)
 
 returns : tie.Need-returns
-returns c = let s = c .before .before .before .before .before .before .before in
+returns c = let s : tie.Start = search in
     let l = c .before .before .list-into in
     (to-write (s .args .file .now) (s .args .part) (s .args .words .now) (l .result) (l .last .1 .1 .1 .1 .1 .0) (s .pre .0) (s .pre .1) (l .ensures .0) (l .ensures .1), refl)
 

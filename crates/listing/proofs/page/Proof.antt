@@ -18,10 +18,10 @@ sub-last : tie.Need-sub-last Inv-loop μ-loop
 sub-last c = omega (arith, c .before .before .before .pre .1 .1)
 
 loop-holds : tie.Need-loop-holds Inv-loop μ-loop
-loop-holds c = (no-page (c .before .before .before .args .file .now) (c .before .before .before .args .words .now) (c .before .before .before .args .text .now) (c .before .before .before .args .p) (c .before .before .before .pre .0), refl)
+loop-holds c = let s : tie.Start Inv-loop μ-loop = search in (no-page (s .args .file .now) (s .args .words .now) (s .args .text .now) (s .args .p) (s .pre .0), refl)
 
 step-requires : tie.Need-step-requires Inv-loop μ-loop
-step-requires c κs = let s = c .before .before .before .before .before .before .before .before .before in
+step-requires c κs = let s : tie.Start Inv-loop μ-loop = search in
     let l = c .before .before .before .before .before .loop in
     let same = page-length _ _ _ _ _ _ (l .inv .0) in
     (l .inv .0 .sound, (omega (arith, s .pre .1 .0, l .inv .1), omega (arith, s .pre .1 .1)))
@@ -30,7 +30,7 @@ loop-less : tie.Need-loop-less Inv-loop μ-loop
 loop-less c = c .before .before .before .before .step .ensures .falls (sym (c .before .before .before .before .before .before .before .before .is-finished .ensures) ∙ c .before .before .before .before .before .before .before .if1 .left)
 
 loop-again : tie.Need-loop-again Inv-loop μ-loop
-loop-again c = let l = c .before .before .before .before .before .before .before .before .before .before .loop in
+loop-again c = let at-loop : tie.At-loop Inv-loop μ-loop = search in let l = at-loop .loop in
     let t = c .before .before .before .before .step in
     (page-more _ _ _ _ _ _ _ _ _ _ (l .inv .0) (t .ensures), t .kept .1 .1 .0 ∙ l .inv .1)
 

@@ -9,11 +9,11 @@ use Rattle.listing.proofs.step.Tie as tie
 
 list-part-requires : tie.Need-list-part-requires
 unfolding Sound
-list-part-requires c κs = let s = c .before .before .before .before .before .before .before in (rw (c .before .before .p3 .given .1) at (s .pre .0), s .pre .1 .0)
+list-part-requires c κs = let s : tie.Start = search in (rw (c .before .before .p3 .given .1) at (s .pre .0), s .pre .1 .0)
 
 put-more-lines-requires : tie.Need-put-more-lines-requires
 unfolding Sound
-put-more-lines-requires c κs = let s = c .before .before .before .before .before .before .before .before in (rw (c .before .before .before .p4 .given .1) at (s .pre .0), s .pre .1 .1)
+put-more-lines-requires c κs = let s : tie.Start = search in (rw (c .before .before .before .p4 .given .1) at (s .pre .0), s .pre .1 .1)
 
 returns : tie.Need-returns
 returns c = let s : tie.Start = search in
@@ -23,25 +23,25 @@ returns c = let s : tie.Start = search in
     (f .p .given .0 .0 .place) (f .p .given .0 .0) (f .p .given .1) (k .number-of .ensures) refl (c .before .before .put-refused .ensures)
 
 returns-2 : tie.Need-returns-2
-returns-2 c = let s = c .before .before .before .before .before .before .before .before .before .before in
-    step-head (s .args .file .now) (s .args .words .now) (s .args .text .now) (c .before .before .put-first-line .last .1 .1 .0) (s .args .p) (s .args .at) (c .before .before .put-first-line .result) (c .before .before .before .before .before .p2 .given .0 .0)
-    (c .before .before .before .before .before .p2 .given .1) (s .pre .0) (c .before .before .put-first-line .ensures)
+returns-2 c = let s : tie.Start = search in let after-p2 : tie.After-p2 = search in
+    step-head (s .args .file .now) (s .args .words .now) (s .args .text .now) (c .before .before .put-first-line .last .1 .1 .0) (s .args .p) (s .args .at) (c .before .before .put-first-line .result) (after-p2 .p2 .given .0 .0)
+    (after-p2 .p2 .given .1) (s .pre .0) (c .before .before .put-first-line .ensures)
 
 returns-3 : tie.Need-returns-3
-returns-3 c = let s = c .before .before .before .before .before .before .before .before .before .before in
-    step-list (s .args .file .now) (c .before .before .list-part .last .1 .1 .0) (s .args .text .now) (s .args .p) (s .args .at) (c .before .before .before .before .before .p3 .given .0 .0) (c .before .before .list-part .result) (c .before .before .before .before .before .p3 .given .1)
+returns-3 c = let s : tie.Start = search in let after-p3 : tie.After-p3 = search in
+    step-list (s .args .file .now) (c .before .before .list-part .last .1 .1 .0) (s .args .text .now) (s .args .p) (s .args .at) (after-p3 .p3 .given .0 .0) (c .before .before .list-part .result) (after-p3 .p3 .given .1)
     (c .before .before .list-part .ensures .0) (c .before .before .list-part .ensures .1) (omega (arith, s .pre .1 .1))
 
 returns-4 : tie.Need-returns-4
 returns-4 c = rw (c .before .before .before .before .before .before .p4 .given .1) (c .before .before .put-more-lines .ensures)
 
 returns-5 : tie.Need-returns-5
-returns-5 c = let s = c .before .before .before .before .before .before .before .before .before .before in
-    step-end (s .args .file .now) (s .args .words .now) (s .args .text .now) (c .before .before .put-end .last .0) (s .args .p) (s .args .at) (c .before .before .put-end .result) (c .before .before .before .before .before .p5 .given .0 .0)
-    (c .before .before .before .before .before .p5 .given .1) (c .before .before .put-end .ensures)
+returns-5 c = let s : tie.Start = search in let after-p5 : tie.After-p5 = search in
+    step-end (s .args .file .now) (s .args .words .now) (s .args .text .now) (c .before .before .put-end .last .0) (s .args .p) (s .args .at) (c .before .before .put-end .result) (after-p5 .p5 .given .0 .0)
+    (after-p5 .p5 .given .1) (c .before .before .put-end .ensures)
 
 returns-6 : tie.Need-returns-6
-returns-6 c = let s = c .before .before .before .before .before in
+returns-6 c = let s : tie.Start = search in
     step-none (s .args .file .now) (s .args .words .now) (s .args .text .now) (s .args .p) (s .args .at) (c .enum-told .given .1) (omega (arith, s .pre .1 .1))
 
 pub step-spec : {M : Type 1} → statement M

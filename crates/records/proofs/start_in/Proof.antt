@@ -11,7 +11,7 @@ use Rattle.records.proofs.start_in.Tie as tie
 
 returns : tie.Need-returns
 unfolding lengthAt
-returns c = let s = c .before .before .before .before .before in let a = s .args in
+returns c = let s : tie.Start = search in let a = s .args in
     let ev = c .before .before .before .greatest-in .ensures in
     let eb = c .before .before .bins-in .ensures in
     let el = c .before .length-at .ensures in

@@ -22,7 +22,7 @@ returns c = let s : tie.Start = search in
     (r .0 ∙ ap Refused (c .before .refuse .ensures) ∙ sym (build-short (a .file .now) (a .room) (a .c) short), none-lays (a .file .now) _ _ (r .1) (r .2) (r .0) (a .c) (a .room))
 
 returns-2 : tie.Need-returns-2
-returns-2 c = let s = c .before .before .before .before in let a = s .args in
+returns-2 c = let s : tie.Start = search in let a = s .args in
     let r = c .start-in .ensures in
     let en = c .before .before .rays-in .ensures in
     let fits : raysIn (a .file .now) (a .c) ≤ a .room = omega (arith, en, c .before .if1 .left) in (
