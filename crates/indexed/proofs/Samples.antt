@@ -125,3 +125,15 @@ record-at-section-7 r out p = p .answer ∙ ap (onCut Refused (fromOn dataShort 
 pub room-before-record : (r : RayAnswer) (out : List ℕ) → LevelsFromPromise dataShort 0 1 (at 2 3) [] r out → r ≡ Refused (refuse Room 0)
 unfolding inOctets tableOctets octetsOf signMagnitude tableOf valuesFrom published reflectivity levelCount fromAnswer fromOn onCut usableIn usable greatestIn dataAt levels digitSum raysIn binsIn lengthAt raysAt binsAt greatestAt field be
 room-before-record r out p = p .answer ∙ ap (onCut Refused (fromOn dataShort 1 (at 2 3) 0) 0) (verdicts .data-short-any)
+
+-- data that ends before Nb bins filled up: the same record, and the lent octets are what they were
+pub ended-data : (r : RayAnswer) (out : List ℕ) → LevelsFromPromise dataShort 0 1 (at 2 3) (replicate 6 9) r out → out ≡ replicate 6 9
+unfolding levelsFrom
+ended-data r out p = p .after ∙ ap (λ (x : RayAnswer). levelsFrom x dataShort 0 (at 2 3) (replicate 6 9)) (record-at-section-7 r out p)
+
+-- earlier bins equal to the run's length taken: the run at offset 0 has two bins
+pub run-length-reached : (r : RayAnswer) (out : List ℕ) → LevelsFromPromise dataShort 0 0 (at 0 2) (replicate 6 9) r out → (r ≡ Refused (refuse Record 673)) × (out ≡ replicate 6 9)
+unfolding inOctets tableOctets octetsOf signMagnitude tableOf valuesFrom published reflectivity levelCount fromAnswer fromOn levelsFrom onCut usableIn usable greatestIn dataAt levels digitSum raysIn binsIn lengthAt raysAt binsAt greatestAt field be
+run-length-reached r out p =
+    let w : r ≡ Refused (refuse Record 673) = p .answer ∙ ap (onCut Refused (fromOn dataShort 0 (at 0 2) 6) 0) (verdicts .data-short-any) in
+    (w, p .after ∙ ap (λ (x : RayAnswer). levelsFrom x dataShort 0 (at 0 2) (replicate 6 9)) w)

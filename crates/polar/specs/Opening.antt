@@ -37,7 +37,7 @@ openAnswer s = onFile O.Refused (λ n c. O.File (summaryOf s n c)) (verdict s)
 unfoldable pub elevationOf : ℕ → Elevation
 elevationOf n = cond (eqb n 0xFFFF) Missing (Hundredths (signed 2 n))
 
--- "Nb, Nr, latitude, longitude, Dx, Dstart, start azimuth, octet 38, elevation constant or missing"; octet 38 is the mode of operation
+-- "Nb, Nr, latitude, longitude, Dx, Dstart, start azimuth, mode of operation, elevation constant or missing"
 unfoldable pub infoOf : List ℕ → Cut → CutInfo
 infoOf s c =
     record {

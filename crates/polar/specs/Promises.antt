@@ -1,5 +1,5 @@
 -- What each call promises: for a lent file s, arguments, lent memory before, the answer and lent memory after.
--- (Run read and run write have theirs in crates `runs` and `packing`: ReadPromise, WritePromise.)
+-- (The run calls have theirs in crate `bare`: ReadPromise, CheckPromise, WritePromise.)
 use Prim.Native.Nat.{ℕ, min}
 use mathlib.Core.Path.{_≡_}
 use mathlib.Core.List.{List}
