@@ -35,7 +35,7 @@ pub fn run_read(octets: &[u8], v: u8, n: usize, out: &mut [u8]) -> RunRead
     let Scan::Exact = found else {
         return RunRead::Refused(ReadRefusal::Data);
     };
-    runs::levels_into(octets, v, 0, n, out);
+    runs::levels_upto(octets, v, 0, n, out);
     RunRead::Read
 }
 

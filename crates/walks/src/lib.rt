@@ -196,7 +196,12 @@ fn one_step(format: ReadAs, s: &[u8], end: usize, st: State) -> Step
             if at == end {
                 return Step::Done;
             }
-            Step::Next(passed(st, n, len))
+            // read again: kept while data is scanned, they would take registers from the scan's loop
+            Step::Next(passed(
+                st,
+                rules::number_at(s, at),
+                sections::place(rules::length_at(s, at)),
+            ))
         }
     }
 }

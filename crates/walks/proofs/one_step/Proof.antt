@@ -35,10 +35,10 @@ returns c = let s : tie.Start = search in let a = s .args in
 
 passed-requires : tie.Need-passed-requires
 passed-requires c κs = let s : tie.Start = search in let a = s .args in
-    let fr = fine-framed (ownOf (a .format)) (now (a .s)) (a .end) (contextIn (a .st)) (a .st .at) (c .if1 .left) (sym (judged (c .before .before .before)) ∙ c .before .enum-told .given .1) in
+    let fr = fine-framed (ownOf (a .format)) (now (a .s)) (a .end) (contextIn (a .st)) (a .st .at) (c .before .before .before .if1 .left) (sym (judged (c .before .before .before .before .before .before)) ∙ c .before .before .before .before .enum-told .given .1) in
     let reach : a .st .at + lengthAt (now (a .s)) (a .st .at) ≤ a .end = fr .reach in
     let inside = s .pre .end-in in
-    let len = frame (c .before .before .before .before .before) .1 in
+    let len = c .place2 .ensures ∙ c .before .length-at2 .ensures in
     (omega arith, s .pre .few)
 
 returns-2 : tie.Need-returns-2
@@ -47,11 +47,12 @@ returns-2 c = let s : tie.Start = search in let a = s .args in
 
 returns-3 : tie.Need-returns-3
 returns-3 c = let s : tie.Start = search in let a = s .args in
-    let f = frame (c .before .before .before .before .before .before) in
-    ap Next (c .passed .ensures ∙ (λ i. past (a .st) (f .0 i) (f .1 i)))
-    ∙ sym (step-next (ownOf (a .format)) (now (a .s)) (a .end) (a .st) (sym (judged (c .before .before .before .before)) ∙ c .before .before .enum-told .given .1) (c .before .if1 .left))
+    let n = c .before .before .before .number-at2 .ensures in
+    let len = c .before .place2 .ensures ∙ c .before .before .length-at2 .ensures in
+    ap Next (c .passed .ensures ∙ (λ i. past (a .st) (n i) (len i)))
+    ∙ sym (step-next (ownOf (a .format)) (now (a .s)) (a .end) (a .st) (sym (judged (c .before .before .before .before .before .before .before)) ∙ c .before .before .before .before .before .enum-told .given .1) (c .before .before .before .before .if1 .left))
 
 pub one-step-spec : {M : Type 1} → statement M
 one-step-spec =
     tie.close (tie.spec (λ c κs. search needs) (λ c κs. search needs) (λ c κs. search needs) (λ c κs. search needs) judge-here-requires (λ c. search needs) (λ c. search needs)
-    returns passed-requires returns-2 returns-3)
+    returns (λ c κs. search needs) (λ c κs. search needs) (λ c κs. search needs) passed-requires returns-2 returns-3)
