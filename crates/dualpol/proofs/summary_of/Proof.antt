@@ -1,13 +1,11 @@
 -- Field by field.
-use Rattle.rules.specs.Fields.{parameterAt}
-use Rattle.dual_format.specs.Fields.{siteAt}
 use borrow.Author.Needs.{needs}
 use Rattle.dualpol.proofs.summary_of.Statement.{statement}
 use Rattle.dualpol.proofs.summary_of.Tie as tie
 
 returns : tie.Need-returns
-unfolding parameterAt siteAt
-returns c = cc
+returns c = let s : tie.Start = search in
+    λ i. record { parameter = c .before .before .parameter-at .ensures i; time = c .before .time-of .ensures i; site = c .site-at .ensures i; cuts = s .args .n }
 
 pub summary-of-spec : {M : Type 1} → statement M
 summary-of-spec =

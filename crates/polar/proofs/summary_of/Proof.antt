@@ -1,12 +1,11 @@
 -- Field by field.
-use Rattle.base_format.specs.Fields.{siteAt}
 use borrow.Author.Needs.{needs}
 use Rattle.polar.proofs.summary_of.Statement.{statement}
 use Rattle.polar.proofs.summary_of.Tie as tie
 
 returns : tie.Need-returns
-unfolding siteAt
-returns c = cc
+returns c = let s : tie.Start = search in
+    λ i. record { product = c .before .before .product-in .ensures i; time = c .before .time-of .ensures i; site = c .site-at .ensures i; cuts = s .args .n }
 
 pub summary-of-spec : {M : Type 1} → statement M
 summary-of-spec =
