@@ -5,13 +5,13 @@
 // What is to be believed stands in specs/; proofs/Exact.antt has the theorems that a verdict accepts and refuses exactly the files of
 // specs/Accepted.antt and specs/Refused.antt, for every format whose checks say what it says.
 ghost use mathlib.Core.Path.{_≡_};
-ghost use mathlib.Core.Bool.{cond, not, _&&_, _||_};
+ghost use mathlib.Core.Bool.{cond};
 ghost use Prim.Native.Nat.{_+_};
-ghost use lib.Dec.{leb, eqb};
+ghost use lib.Dec.{leb};
 ghost use Rattle.rules.specs.Fields.{lengthAt};
 ghost use Rattle.sections.specs.Refusal.{numberOf, refuse};
 ghost use Rattle.sections.specs.Parts.{binsIn, raysIn, timeOf, gridAt};
-ghost use Rattle.sections.specs.Checks.{follows, closes, checks1, checks6};
+ghost use Rattle.sections.specs.Checks.{follows, framed, roomForCut, closes, checks1, checks6};
 ghost use Rattle.sections.specs.Verdict.{firstFault};
 
 // Why a call on a file is refused: one case for each number of specs/Refusal.antt.
@@ -247,16 +247,18 @@ fn may_follow(p: u8, n: u8) -> bool
     (p != 2) & (n == p + 1)
 }
 
-// Whether a section of this number and length may stand at the cursor: both are read once, for all that asks them.
-pub fn is_framed(end: usize, x: Context, at: usize, n: u8, len: usize) -> bool
-    ensures { λ r. ⌜ r ≡ (leb (at + 5) end && (leb 5 len && (leb (at + len) end && follows (x .previous) n))) ⌝ }
+pub fn is_framed(s: &[u8], end: usize, x: Context, at: usize) -> bool
+    ensures { λ r. ⌜ r ≡ framed (now (s .entry)) end x at ⌝ }
 {
+    let len = place(rules::length_at(s, at));
+    let n = rules::number_at(s, at);
     ends_by(at, 5, end) & ((5 <= len) & (ends_by(at, len, end) & may_follow(x.previous, n)))
 }
 
-pub fn has_room(x: Context, n: u8) -> bool
-    ensures { λ r. ⌜ r ≡ not (leb 64 (x .cuts) && (eqb n 3 || eqb n 4)) ⌝ }
+pub fn has_room(s: &[u8], x: Context, at: usize) -> bool
+    ensures { λ r. ⌜ r ≡ roomForCut (now (s .entry)) x at ⌝ }
 {
+    let n = rules::number_at(s, at);
     !((64 <= x.cuts) & ((n == 3) | (n == 4)))
 }
 

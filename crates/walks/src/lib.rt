@@ -10,7 +10,7 @@ ghost use mathlib.Core.Path.{_≡_};
 ghost use mathlib.Core.List.{[]};
 ghost use Prim.Native.Nat.{_+_, _^_, _≤_, _<_};
 ghost use lib.ListN.{length};
-ghost use Rattle.rules.specs.Fields.{lengthAt, numberAt, pointsAt};
+ghost use Rattle.rules.specs.Fields.{lengthAt, pointsAt};
 ghost use Rattle.sections.specs.Checks.{sectionChecks, checksAt};
 ghost use Rattle.sections.specs.Verdict.{firstFault, sections, verdictBy};
 ghost use Rattle.base_format.specs.Verdict.{verdict, anyDataVerdict};
@@ -124,19 +124,10 @@ fn context_in(st: State) -> Context
     }
 }
 
-// All the checks at the cursor, in order: 3, 9, then the section's own, whose number and length are those given. No cut begins with a section 7, so 9 is not asked there and it goes straight
+// All the checks at the cursor, in order: 3, 9, then the section's own. No cut begins with a section 7, so 9 is not asked there and it goes straight
 // to its checks: the compiler then makes a better loop of the scan, where nearly all the time goes.
-fn judge_here(
-    format: ReadAs,
-    s: &[u8],
-    end: usize,
-    x: Context,
-    at: usize,
-    n: u8,
-    len: usize,
-) -> Judged
+fn judge_here(format: ReadAs, s: &[u8], end: usize, x: Context, at: usize) -> Judged
     requires { ⌜ (end ≤ length (now s)) × (3 ≤ x .previous → pointsAt (now s) (x .section3) ≤ 2097152) ⌝ }
-    requires { ⌜ (n ≡ numberAt (now s) at) × (len ≡ lengthAt (now s) at) ⌝ }
     ensures { λ r. ⌜ r ≡ firstFault (checksAt (ownOf format) (now (s .entry)) end x at) ⌝ }
 {
     if at == end {
@@ -147,12 +138,13 @@ fn judge_here(
             sections::accepted(),
         );
     }
-    if sections::is_framed(end, x, at, n, len) {
+    if sections::is_framed(s, end, x, at) {
+        let n = rules::number_at(s, at);
         if n == 7 {
             return judge7(format, s, x, at);
         }
         return sections::check(
-            sections::has_room(x, n),
+            sections::has_room(s, x, at),
             Why::CutCount,
             at,
             judge(format, s, x, at, n),
@@ -188,15 +180,12 @@ fn one_step(format: ReadAs, s: &[u8], end: usize, st: State) -> Step
     ensures { λ r. ⌜ r ≡ stepOf (ownOf format) (now (s .entry)) end st ⌝ }
 {
     let at = st.at;
-    let n = rules::number_at(s, at);
-    let len = sections::place(rules::length_at(s, at));
-    match judge_here(format, s, end, context_in(st), at, n, len) {
+    match judge_here(format, s, end, context_in(st), at) {
         Judged::Refused(refusal) => Step::Refused(refusal),
         Judged::Accepted => {
             if at == end {
                 return Step::Done;
             }
-            // read again: kept while data is scanned, they would take registers from the scan's loop
             Step::Next(passed(
                 st,
                 rules::number_at(s, at),

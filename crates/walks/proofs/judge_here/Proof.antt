@@ -2,20 +2,19 @@
 -- the file ask.
 use Rattle.sections.proofs.Framed.{framed-is}
 use Rattle.sections.proofs.Order.{past-three}
-use Rattle.sections.specs.Checks.{FormatChecks, follows, framed, roomForCut, sectionChecks, checksAt}
+use Rattle.sections.specs.Checks.{FormatChecks, framed, roomForCut, sectionChecks, checksAt}
 use Rattle.sections.specs.declared.Context.{Context}
 use Rattle.sections.specs.Verdict.{firstFault}
 use Rattle.walks.specs.Formats.{ownOf}
 use Rattle.rules.specs.Fields.{lengthAt, numberAt, pointsAt}
 use Prim.Native.Nat.{ℕ, _+_, _≤_}
 use mathlib.Core.List.{List}
-use mathlib.Core.Bool.{true, and-false, not, _&&_, _||_}
+use mathlib.Core.Bool.{true, and-false}
 use lib.ListN.{length}
-use lib.Dec.{leb, eqb}
 use borrow.Author.Tests.{eq-eqb, ne-eqb}
 use denote.Ref.{now}
 use native.Mathlib.Omega.{arith}
-use mathlib.Core.Path.{_≡_, sym, ap, _∙_}
+use mathlib.Core.Path.{_≡_, sym, _∙_}
 use borrow.Author.Needs.{needs}
 use Rattle.walks.proofs.judge_here.Statement.{statement}
 use Rattle.walks.proofs.judge_here.Tie as tie
@@ -24,24 +23,20 @@ returns : tie.Need-returns
 unfolding checksAt
 returns c = let a = c .before .before .before .before .before .args in rw (eq-eqb (a .at) (a .end) (c .before .before .before .if1 .taken), c .check .ensures, c .before .accepted .ensures, c .before .before .is-closed .ensures)
 
--- the frame by the number and the length that were read
-framing : (c : tie.After-is-framed) → let a = c .before .before .before .args in c .is-framed .result ≡ framed (now (a .s)) (a .end) (a .x) (a .at)
-unfolding framed
-framing c = let s = c .before .before .before in let a = s .args in
-    c .is-framed .ensures ∙ (λ i. leb (a .at + 5) (a .end) && (leb 5 (s .pre .1 .1 i) && (leb (a .at + s .pre .1 .1 i) (a .end) && follows (a .x .previous) (s .pre .1 .0 i))))
-
 -- what both ways to judge a section ask, from its framing
-asked : (c : tie.After-is-framed) → c .is-framed .result ≡ true → let a = c .before .before .before .args in
-    (a .at + lengthAt (now (a .s)) (a .at) ≤ length (now (a .s))) × (a .n ≡ 7 → pointsAt (now (a .s)) (a .x .section3) ≤ 2097152)
-asked c framed-here = let s = c .before .before .before in
+asked : (c : tie.After-number-at) → let s = c .before .before .before .before .before in
+    let at = s .args .at in
+    (at + lengthAt (now (s .args .s)) at ≤ length (now (s .args .s))) × (c .number-at .result ≡ 7 → pointsAt (now (s .args .s)) (s .args .x .section3) ≤ 2097152)
+unfolding numberAt
+asked c = let s = c .before .before .before .before .before in
     let a = s .args in
-    let fr = framed-is (now (a .s)) (a .end) (a .x) (a .at) (sym (framing c) ∙ framed-here) in
+    let fr = framed-is (now (a .s)) (a .end) (a .x) (a .at) (sym (c .before .before .is-framed .ensures) ∙ c .before .if2 .taken) in
     let reach = fr .reach in
-    let inside = s .pre .0 .0 in
-    (omega arith, λ e. s .pre .0 .1 (past-three (a .x .previous) _ (fr .allowed) (omega (arith, sym (s .pre .1 .0) ∙ e))))
+    let inside = s .pre .0 in
+    (omega arith, λ (e : c .number-at .result ≡ 7). s .pre .1 (past-three (a .x .previous) _ (fr .allowed) (omega (arith, sym (c .number-at .ensures) ∙ e))))
 
 judge7-requires : tie.Need-judge7-requires
-judge7-requires c κs = let w = asked (c .before .before) (c .before .if2 .taken) in
+judge7-requires c κs = let w = asked (c .before) in
     (w .0, w .1 (c .if3 .taken))
 
 -- a framed section 7 has its own checks alone: there is room, since no cut begins
@@ -51,30 +46,25 @@ unfolding checksAt roomForCut sectionChecks
 seven own s end x at h f n = rw (ne-eqb at end h, f, n, and-false)
 
 returns-2 : tie.Need-returns-2
-returns-2 c = let s = c .before .before .before .before .before .before in let a = s .args in let k = c .before .before .before in
-    c .judge7 .ensures ∙ seven (ownOf (a .format)) (now (a .s)) (a .end) (a .x) (a .at) (k .before .if1 .left) (sym (framing k) ∙ c .before .before .if2 .taken) (sym (s .pre .1 .0) ∙ c .before .if3 .taken)
+unfolding numberAt
+returns-2 c = let a = c .before .before .before .before .before .before .before .args in
+    c .judge7 .ensures ∙ seven (ownOf (a .format)) (now (a .s)) (a .end) (a .x) (a .at) (c .before .before .before .before .before .if1 .left) (sym (c .before .before .before .before .is-framed .ensures) ∙ c .before .before .before .if2 .taken) (sym (c .before .before .number-at .ensures) ∙ c .before .if3 .taken)
 
 judge-requires : tie.Need-judge-requires
-judge-requires c κs = (asked (c .before .before .before) (c .before .before .if2 .taken) .0, c .before .if3 .left)
-
--- room by the number that was read
-roomy : (c : tie.After-has-room) → let a = c .before .before .before .before .before .before .args in c .has-room .result ≡ roomForCut (now (a .s)) (a .x) (a .at)
-unfolding roomForCut
-roomy c = let s = c .before .before .before .before .before .before in
-    c .has-room .ensures ∙ ap (λ (n : ℕ). not (leb 64 (s .args .x .cuts) && (eqb n 3 || eqb n 4))) (s .pre .1 .0)
+judge-requires c κs = (asked (c .before .before) .0, c .before .if3 .left)
 
 returns-3 : tie.Need-returns-3
-unfolding checksAt
-returns-3 c = let s = c .before .before .before .before .before .before .before .before in let a = s .args in let k = c .before .before .before .before .before in
-    rw (ne-eqb (a .at) (a .end) (k .before .if1 .left), sym (framing k) ∙ c .before .before .before .before .if2 .taken, c .check2 .ensures, c .before .judge .ensures, roomy (c .before .before), s .pre .1 .0)
+unfolding checksAt numberAt
+returns-3 c = let a = c .before .before .before .before .before .before .before .before .before .args in
+    rw (ne-eqb (a .at) (a .end) (c .before .before .before .before .before .before .before .if1 .left), sym (c .before .before .before .before .before .before .is-framed .ensures) ∙ c .before .before .before .before .before .if2 .taken, c .check2 .ensures, c .before .judge .ensures, c .before .before .has-room .ensures, c .before .before .before .before .number-at .ensures)
 
 returns-4 : tie.Need-returns-4
 unfolding checksAt
 returns-4 c = let a = c .before .before .before .before .before .args in
-    rw (ne-eqb (a .at) (a .end) (c .before .before .before .if1 .left), sym (framing (c .before .before)) ∙ c .before .if2 .left) (c .refused .ensures)
+    rw (ne-eqb (a .at) (a .end) (c .before .before .before .if1 .left), sym (c .before .before .is-framed .ensures) ∙ c .before .if2 .left) (c .refused .ensures)
 
 pub judge-here-spec : {M : Type 1} → statement M
 judge-here-spec =
     tie.close (tie.spec (λ c κs. search needs) (λ c κs. search needs) (λ c κs. search needs) returns
-    (λ c κs. search needs) judge7-requires returns-2 (λ c κs. search needs)
+    (λ c κs. search needs) (λ c κs. search needs) judge7-requires returns-2 (λ c κs. search needs)
     judge-requires (λ c κs. search needs) returns-3 (λ c κs. search needs) returns-4)
