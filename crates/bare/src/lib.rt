@@ -1,6 +1,6 @@
 // THE CALLS without a file: run read, run check, run write (FORMAT.md, "Calls"). Nothing here asks anything of its caller: what is out of range is
 // refused, by FORMAT.md's numbers. Below stand `runs`, which reads, and `packing`, which writes; above stand the calls for C and Rust.
-use runs::Scan;
+use scan::Scan;
 ghost use Rattle.bare.specs.Read.{ReadPromise, CheckPromise};
 ghost use Rattle.bare.specs.Write.{WritePromise};
 
@@ -31,7 +31,7 @@ pub fn run_read(octets: &[u8], v: u8, n: usize, out: &mut [u8]) -> RunRead
     if out.len() < n {
         return RunRead::Refused(ReadRefusal::Room);
     }
-    let found = runs::scan_runs(octets, v, n);
+    let found = scan::scan_runs(octets, v, n);
     let Scan::Exact = found else {
         return RunRead::Refused(ReadRefusal::Data);
     };
@@ -62,7 +62,7 @@ pub fn run_check(octets: &[u8], v: u8, n: usize) -> RunCheck
     if 2097152 < n {
         return RunCheck::Refused(CheckRefusal::Argument);
     }
-    match runs::scan_runs(octets, v, n) {
+    match scan::scan_runs(octets, v, n) {
         Scan::Exact => RunCheck::Gives,
         Scan::Off => RunCheck::Refused(CheckRefusal::Data),
     }

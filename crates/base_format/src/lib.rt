@@ -3,7 +3,7 @@
 //
 // What is to be believed stands in specs/Accepted.antt, by the octets of each section, and in specs/Checks.antt, by places and in the order of checks,
 // with the rule lists of specs/Rules.antt; proofs/Exact.antt has the theorems that `verdict` accepts and refuses exactly these files.
-use runs::Scan;
+use scan::Scan;
 use sections::Context;
 use sections::Cut;
 use sections::Judged;
@@ -135,7 +135,7 @@ fn data_at(s: &[u8], at: usize, v: u8, bins: usize) -> bool
 {
     let from = at + 5;
     let to = sections::end_at(s, at);
-    match runs::scan_runs(&s[from..to], v, bins) {
+    match scan::scan_runs(&s[from..to], v, bins) {
         Scan::Exact => true,
         Scan::Off => false,
     }

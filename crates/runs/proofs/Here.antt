@@ -12,7 +12,6 @@ use Rattle.runs.specs.Run.{digitSum, levels, opens, gives, runLen}
 use Rattle.runs.specs.Inner.{digitCount, runNext, knownStep, Stands, InHand, Holds}
 use Rattle.runs.specs.declared.RunInHand.{RunInHand}
 use Rattle.runs.specs.declared.Step.the-variants.{Run, End}
-use Rattle.runs.specs.declared.Scan.the-variants.{Exact, Off}
 use Rattle.octets.proofs.Orders.{by-order}
 use Rattle.lent.proofs.Lent.{drop-here}
 use Rattle.runs.proofs.Bins.{levels-nil, levels-open, levels-digit}
@@ -170,15 +169,7 @@ module _ (v left : ℕ) (s : List ℕ) (at : ℕ) where
       split true t e = absurd (let z : _≡_ {A = ℕ} 0 1 = cc e in omega arith)
       split false t e = (omega (arith, eqb-false left 0 t), cc e, cc e, cc e)
 
--- ---- what a scan tells
-pub told : (b : Bool) → Exact ≡ cond b Exact Off → b ≡ true
-told true e = refl
-told false e = absurd (let z : _≡_ {A = ℕ} 0 1 = cc e in omega arith)
-
-pub missed : (b : Bool) → Off ≡ cond b Exact Off → b ≡ false
-missed false e = refl
-missed true e = absurd (let z : _≡_ {A = ℕ} 0 1 = cc e in omega arith)
-
+-- ---- octets that give so many bins
 both : (x y : Bool) → cond x y false ≡ true → (x ≡ true) × (y ≡ true)
 both true y e = (refl, e)
 both false y e = absurd (let z : _≡_ {A = ℕ} 0 1 = cc e in omega arith)

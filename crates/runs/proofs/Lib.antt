@@ -1,5 +1,4 @@
 pub mod Bins
-pub mod Scanning
 pub mod Steps
 pub mod Here
 pub mod Digits

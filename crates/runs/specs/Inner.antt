@@ -5,10 +5,8 @@ use mathlib.Core.List.{List, [], _∷_}
 use mathlib.Core.Bool.{true, cond}
 use lib.ListN.{length, drop, getD}
 use lib.Dec.{leb, eqb}
-use Rattle.runs.specs.Run.{levels, opens, gives, runLen}
+use Rattle.runs.specs.Run.{levels, opens, runLen}
 use Rattle.runs.specs.declared.RunInHand.{RunInHand}
-use Rattle.runs.specs.declared.Scan.{Scan}
-use Rattle.runs.specs.declared.Scan.the-variants.{Exact, Off}
 use Rattle.runs.specs.declared.Step.{Step}
 use Rattle.runs.specs.declared.Step.the-variants.{Run, End}
 
@@ -16,10 +14,6 @@ use Rattle.runs.specs.declared.Step.the-variants.{Run, End}
 unfoldable pub digitCount : ℕ → List ℕ → ℕ
 digitCount v [] = 0
 digitCount v (o ∷ s) = cond (leb o v) 0 (1 + digitCount v s)
-
--- what a scan for n bins finds
-abbrev pub scanned : ℕ → ℕ → List ℕ → Scan
-scanned v n s = cond (gives v n s) Exact Off
 
 -- the place past the digits of the run that the octet at a place opens
 abbrev pub runNext : ℕ → List ℕ → ℕ → ℕ

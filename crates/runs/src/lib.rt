@@ -1,6 +1,6 @@
 // Template 7.200, reading: octets to levels under a greatest level V, by FORMAT.md, "Run-length rule".
 // specs/Run.antt holds the one definition of decoding, `levels`. The functions ask of their callers what is known to them; the calls that ask nothing are in
-// `bare`. Below stands `lent`; the crates `packing` (writing), `base_format` (a file's data) and `stretches` (the list, run by run) stand above and go by
+// `bare`. Below stands `lent`; the crates `scan` (whether data gives its bins), `packing` (writing) and `stretches` (the list, run by run) stand above and go by
 // `levels`, `gives` and their laws.
 ghost use mathlib.Core.Bool.{true};
 ghost use mathlib.Core.Path.{_≡_};
@@ -9,66 +9,7 @@ ghost use lib.ListN.{length, getD};
 ghost use lib.Dec.{leb};
 ghost use Rattle.lent.specs.Lent.{front, between};
 ghost use Rattle.runs.specs.Run.{levels, opens, runLen};
-ghost use Rattle.runs.specs.Inner.{scanned, knownStep, cutStep, InHand, Holds};
-
-// Whether octets give exactly the bins wanted.
-pub enum Scan {
-    Exact,
-    Off,
-}
-
-// One pass over the octets, runs outside and digits inside: an octet that opens no run, or adds more bins than are left, leaves it at once.
-// The weight grows no more once it is over the bins of the largest cut: a digit other than zero then adds more than are left, and a tail of
-// zero digits cannot overflow it.
-pub fn scan_runs(octets: &[u8], v: u8, n: usize) -> Scan
-    requires { ⌜ (v ≤ 253) × (n ≤ 2097152) ⌝ }
-    ensures { λ r. ⌜ r ≡ scanned v n (now (octets .entry)) ⌝ }
-{
-    if octets.len() == 0 {
-        if n == 0 {
-            return Scan::Exact;
-        }
-        return Scan::Off;
-    }
-    let base = 255 - v as usize; // B
-    let mut i: usize = 0;
-    let mut left = n; // bins still to come
-    let mut o = octets[0];
-    'runs: while o <= v {
-        if left < 1 {
-            break 'runs;
-        }
-        left -= 1;
-        i += 1;
-        if octets.len() <= i {
-            break 'runs;
-        }
-        o = octets[i];
-        let mut weight: usize = 1;
-        'digits: while v < o {
-            let more = (o - v - 1) as usize * weight;
-            if left < more {
-                break 'runs;
-            }
-            left -= more;
-            i += 1;
-            if octets.len() <= i {
-                break 'runs;
-            }
-            o = octets[i];
-            if weight <= 2097152 {
-                weight *= base;
-            }
-        }
-    }
-    if i < octets.len() {
-        return Scan::Off;
-    }
-    if left == 0 { // no bin is owed
-        return Scan::Exact;
-    }
-    Scan::Off
-}
+ghost use Rattle.runs.specs.Inner.{knownStep, cutStep, InHand, Holds};
 
 // A step over runs: the run at a place, with the place past its digits; or the end, where nothing more is wanted or nothing more is there.
 pub enum Step {

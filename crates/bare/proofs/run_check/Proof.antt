@@ -4,7 +4,7 @@ use borrow.Author.Needs.{needs}
 use borrow.Author.Tests.{lt-ltb, le-ltb}
 use Rattle.runs.specs.Run.{gives}
 use Rattle.bare.specs.Read.{checkAnswer}
-use Rattle.runs.proofs.Here.{told, missed}
+use Rattle.scan.proofs.Scanning.{told, missed}
 use Rattle.bare.proofs.run_check.Statement.{statement}
 use Rattle.bare.proofs.run_check.Tie as tie
 

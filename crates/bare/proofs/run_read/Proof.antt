@@ -11,7 +11,8 @@ use borrow.Author.Tests.{lt-ltb, le-ltb, le-leb}
 use Rattle.runs.specs.Run.{levels, gives}
 use Rattle.lent.specs.Lent.{front}
 use Rattle.bare.specs.Read.{readAnswer}
-use Rattle.runs.proofs.Here.{told, missed, gives-true}
+use Rattle.runs.proofs.Here.{gives-true}
+use Rattle.scan.proofs.Scanning.{told, missed}
 use Rattle.bare.proofs.run_read.Statement.{statement}
 use Rattle.bare.proofs.run_read.Tie as tie
 

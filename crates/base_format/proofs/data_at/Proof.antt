@@ -1,5 +1,5 @@
 -- The part that is lent on is the data of the section, and the scan tells whether it gives the bins.
-use Rattle.runs.proofs.Here.{told, missed}
+use Rattle.scan.proofs.Scanning.{told, missed}
 use Rattle.base_format.specs.Parts.{dataAt}
 use Rattle.runs.specs.Run.{gives}
 use Rattle.rules.specs.Fields.{lengthAt}

@@ -2,7 +2,7 @@
 use Prim.Native.Nat.{ℕ, _+_, _-_, _*_, _≤_, _<_}
 use mathlib.Core.Path.{_≡_, refl, sym, ap, _∙_}
 use mathlib.Core.Logic.{⊎-elim}
-use mathlib.Core.Bool.{Bool, cond}
+use mathlib.Core.Bool.{Bool, true, false, cond}
 use mathlib.Core.List.{List, [], _∷_}
 use native.Mathlib.Nat.{pow-zero}
 use native.Mathlib.Omega.{arith}
@@ -10,12 +10,12 @@ use lib.ListN.{length, drop, getD, drop-of-length-le}
 use lib.Seq.{take-all}
 use lib.Dec.{leb, ltb, eqb}
 use borrow.Author.Tests.{le-leb, lt-leb, lt-ltb, le-ltb, eq-eqb, ne-eqb}
 use Rattle.runs.specs.Run.{base, levels, gives}
-use Rattle.runs.specs.Inner.{scanned}
-use Rattle.runs.specs.declared.Scan.{Scan}
-use Rattle.runs.specs.declared.Scan.the-variants.{Exact, Off}
+use Rattle.scan.specs.Inner.{scanned}
+use Rattle.scan.specs.declared.Scan.{Scan}
+use Rattle.scan.specs.declared.Scan.the-variants.{Exact, Off}
 use Rattle.octets.proofs.Orders.{by-order}
 use Rattle.runs.proofs.Bins.{digitSum-open, rest, rest-nil, rest-open, rest-digit, rest-right, gives-nil, gives-level, gives-above, Weighs, weighs-same, next-weighs, same-digit}
 use Rattle.lent.proofs.Lent.{drop-here}
 
 -- so many bins where so many are wanted
@@ -162,3 +162,12 @@ module _ (v left w : ℕ) (octets : List ℕ) (i o : ℕ) (X : Scan) (inside : i
 
   pub digit-last : v < o → (o - v - 1) * w ≤ left → length octets ≤ i + 1 → inRun v left w (drop i octets) ≡ X → X ≡ verdict 0 (left - (o - v - 1) * w)
   digit-last high within end e = ended v (left - (o - v - 1) * w) (cond (leb w 2097152) (w * base v) w) octets (i + 1) X end (digit-step high within e)
+
+-- ---- what a scan tells
+pub told : (b : Bool) → Exact ≡ cond b Exact Off → b ≡ true
+told true e = refl
+told false e = absurd (let z : _≡_ {A = ℕ} 0 1 = cc e in omega arith)
+
+pub missed : (b : Bool) → Off ≡ cond b Exact Off → b ≡ false
+missed false e = refl
+missed true e = absurd (let z : _≡_ {A = ℕ} 0 1 = cc e in omega arith)

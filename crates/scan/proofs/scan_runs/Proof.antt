@@ -6,13 +6,13 @@ use native.Mathlib.Omega.{arith}
 use native.Mathlib.Nat.{mul-le-mul}
 use lib.ListN.{length, getD, drop}
 use borrow.Author.Tests.{le-leb, lt-leb}
-use Rattle.runs.specs.Inner.{scanned}
-use Rattle.runs.specs.declared.Scan.the-variants.{Off}
+use Rattle.scan.specs.Inner.{scanned}
+use Rattle.scan.specs.declared.Scan.the-variants.{Off}
 use Rattle.runs.proofs.Bins.{product}
-use Rattle.runs.proofs.Scanning.{verdict, inRun, atRun, none-given, all-read, too-few, atRun-right, level-step, level-last, digits-level, digit-step, digit-last, above-fails, full-fails, past-fails}
+use Rattle.scan.proofs.Scanning.{verdict, inRun, atRun, none-given, all-read, too-few, atRun-right, level-step, level-last, digits-level, digit-step, digit-last, above-fails, full-fails, past-fails}
 use borrow.Author.Needs.{needs}
-use Rattle.runs.proofs.scan_runs.Statement.{statement}
-use Rattle.runs.proofs.scan_runs.Tie as tie
+use Rattle.scan.proofs.scan_runs.Statement.{statement}
+use Rattle.scan.proofs.scan_runs.Tie as tie
 
 abbrev Inv-digits : tie.InvT-digits
 Inv-digits octets v n base i₀ left₀ o₀ weight₀ i left o weight = (i < length octets) × (i₀ ≤ i) × (left ≤ n) × (weight ≤ 2097152 * 255) × (o ≡ getD octets i 0) × (inRun v left weight (drop i octets) ≡ scanned v n octets)

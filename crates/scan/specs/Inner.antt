@@ -1,0 +1,11 @@
+-- What the scan finds: no promise of a call cites it.
+use Prim.Native.Nat.{ℕ}
+use mathlib.Core.List.{List}
+use mathlib.Core.Bool.{cond}
+use Rattle.runs.specs.Run.{gives}
+use Rattle.scan.specs.declared.Scan.{Scan}
+use Rattle.scan.specs.declared.Scan.the-variants.{Exact, Off}
+
+-- what a scan for n bins finds
+abbrev pub scanned : ℕ → ℕ → List ℕ → Scan
+scanned v n s = cond (gives v n s) Exact Off

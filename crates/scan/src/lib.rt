@@ -1,0 +1,64 @@
+// The scan: whether octets give exactly the bins wanted, by FORMAT.md, "Run-length rule", in one pass and storing nothing. It asks that V and the bins are in range. Below it stands `runs`, which says what octets
+// give; above it `bare` (run read, run check) and `base_format` (the data of a file).
+ghost use mathlib.Core.Path.{_≡_};
+ghost use Prim.Native.Nat.{_≤_};
+ghost use Rattle.scan.specs.Inner.{scanned};
+
+// Whether octets give exactly the bins wanted.
+pub enum Scan {
+    Exact,
+    Off,
+}
+
+// One pass over the octets, runs outside and digits inside: an octet that opens no run, or adds more bins than are left, leaves it at once.
+// The weight grows no more once it is over the bins of the largest cut: a digit other than zero then adds more than are left, and a tail of
+// zero digits cannot overflow it.
+pub fn scan_runs(octets: &[u8], v: u8, n: usize) -> Scan
+    requires { ⌜ (v ≤ 253) × (n ≤ 2097152) ⌝ }
+    ensures { λ r. ⌜ r ≡ scanned v n (now (octets .entry)) ⌝ }
+{
+    if octets.len() == 0 {
+        if n == 0 {
+            return Scan::Exact;
+        }
+        return Scan::Off;
+    }
+    let base = 255 - v as usize; // B
+    let mut i: usize = 0;
+    let mut left = n; // bins still to come
+    let mut o = octets[0];
+    'runs: while o <= v {
+        if left < 1 {
+            break 'runs;
+        }
+        left -= 1;
+        i += 1;
+        if octets.len() <= i {
+            break 'runs;
+        }
+        o = octets[i];
+        let mut weight: usize = 1;
+        'digits: while v < o {
+            let more = (o - v - 1) as usize * weight;
+            if left < more {
+                break 'runs;
+            }
+            left -= more;
+            i += 1;
+            if octets.len() <= i {
+                break 'runs;
+            }
+            o = octets[i];
+            if weight <= 2097152 {
+                weight *= base;
+            }
+        }
+    }
+    if i < octets.len() {
+        return Scan::Off;
+    }
+    if left == 0 { // no bin is owed
+        return Scan::Exact;
+    }
+    Scan::Off
+}
