@@ -1,5 +1,5 @@
 // THE CALLS without a file: run read, run check, run write (FORMAT.md, "Calls"). Nothing here asks anything of its caller: what is out of range is
-// refused, by FORMAT.md's numbers. Below stand `runs`, which reads, and `packing`, which writes; above stand the calls for C and Rust.
+// refused, by FORMAT.md's numbers. Below stand `scan` and `runs`, which read, and `packing`, which writes; above stand the calls for C and Rust.
 use scan::Scan;
 ghost use Rattle.bare.specs.Read.{ReadPromise, CheckPromise};
 ghost use Rattle.bare.specs.Write.{WritePromise};

@@ -1,5 +1,5 @@
 // Run-length packed files: FORMAT.md, "Sections", of sections 3, 4, 5 and 7, which are this format's own. Below it stand `sections` (what every
-// file has), `rules` (the fields of each section), `runs` (the data) and `values` (the value table); above it `walks`, which walks over a file.
+// file has), `rules` (the fields of each section), `runs` and `scan` (the data) and `values` (the value table); above it `walks`, which walks over a file.
 //
 // What is to be believed stands in specs/Accepted.antt, by the octets of each section, and in specs/Checks.antt, by places and in the order of checks,
 // with the rule lists of specs/Rules.antt; proofs/Exact.antt has the theorems that `verdict` accepts and refuses exactly these files.
