@@ -1,8 +1,10 @@
 pub mod Bounds
+pub mod Held
 pub mod Alike
 pub mod Says
 pub mod First
 pub mod Exact
 pub mod AnyData
+pub mod NoTwelve
 pub mod GoodCuts
 pub mod Products

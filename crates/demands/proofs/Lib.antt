@@ -1,5 +1,6 @@
 pub mod Determined
 pub mod Demand1
+pub mod NoTwelve
 pub mod Lent
 pub mod Demand2
 pub mod Demand3

@@ -10,3 +10,4 @@ pub mod Grammar
 pub mod Exact
 pub mod Each
 pub mod Inside
+pub mod Held

@@ -1,5 +1,5 @@
 -- Which section follows which: the test `follows` says one of eight pairs.
-use Prim.Native.Nat.{ℕ, _≤_}
+use Prim.Native.Nat.{ℕ, _≤_, _<_}
 use mathlib.Core.Path.{_≡_, refl}
 use mathlib.Core.Bool.{Bool, true, false, _&&_, _||_}
 use native.Mathlib.Omega.{arith}
@@ -52,11 +52,11 @@ follow p n h =
     let q = and-true-both (eqb p 7) (eqb n 3 || eqb n 4) e in
     either-of (eqb n 3) (eqb n 4) (q .1) (λ a. f73 (eqb-true p 7 (q .0)) (eqb-true n 3 a)) (λ b. f74 (eqb-true p 7 (q .0)) (eqb-true n 4 b)))
 
--- a section of number 4 or more comes past a section 3
-pub past-three : (p n : ℕ) → follows p n ≡ true → 4 ≤ n → 3 ≤ p
-past-three p n h k = go (follow p n h)
+-- a section of a greater number than n comes past a section n, where n is 3 to 7
+pub past-number : (n p m : ℕ) → 3 ≤ n → n ≤ 7 → follows p m ≡ true → n < m → n ≤ p
+past-number n p m some few h k = go (follow p m h)
   where
-    go : Follow p n → 3 ≤ p
+    go : Follow p m → n ≤ p
     go (f01 a b) = omega arith
     go (f13 a b) = omega arith
     go (f34 a b) = omega arith
@@ -65,3 +65,7 @@ past-three p n h k = go (follow p n h)
     go (f67 a b) = omega arith
     go (f73 a b) = omega arith
     go (f74 a b) = omega arith
+
+-- a section of number 4 or more comes past a section 3
+pub past-three : (p n : ℕ) → follows p n ≡ true → 4 ≤ n → 3 ≤ p
+past-three p n h k = past-number 3 p n (omega arith) (omega arith) h k
