@@ -144,18 +144,17 @@ two-fail r c d O O′ f (later p (later q h)) = later p (later q (f h))
 alone : (r q : Refusal) (b : Bool) → FirstFails r (check q b ∷ []) → q ≡ r
 alone r q b (this e) = refl
 
-but-third : (r : Refusal) (c d : Check) (q : Refusal) (b : Bool) → (q ≡ r → ⊥) → FirstFails r (c ∷ d ∷ check q b ∷ []) → FirstFails r (c ∷ d ∷ [])
-but-third r c d q b n (this e) = this e
-but-third r c d q b n (later p (this e)) = later p (this e)
-but-third r c d q b n (later p (later o f)) = absurd (n (alone r q b f))
+but-second : (r : Refusal) (c : Check) (q : Refusal) (b : Bool) → (q ≡ r → ⊥) → FirstFails r (c ∷ check q b ∷ []) → FirstFails r (c ∷ [])
+but-second r c q b n (this e) = this e
+but-second r c q b n (later p f) = absurd (n (alone r q b f))
 
 module _ (s : List ℕ) where
-  module _ (P : List Check → Type 0) (x : Context) (at : ℕ) (seven : P (checks7 s x at) → P (anyDataChecks7 s x at)) where
+  module _ (P : List Check → Type 0) (x : Context) (at : ℕ) (seven : P (checks7 s x at) → P (anyDataChecks7 s at)) where
     own-any : (n : ℕ) → P (baseChecks s x at n) → P (anyDataChecks s x at n)
     unfolding baseChecks anyDataChecks
     own-any n h = go (eqb n 7) refl
       where
-        go : (t : Bool) → eqb n 7 ≡ t → P (cond t (anyDataChecks7 s x at) (baseChecks s x at n))
+        go : (t : Bool) → eqb n 7 ≡ t → P (cond t (anyDataChecks7 s at) (baseChecks s x at n))
         go true e = seven (subst (λ (m : ℕ). P (baseChecks s x at m)) (eqb-true n 7 e) h)
         go false e = h
 
@@ -183,14 +182,14 @@ module _ (s : List ℕ) where
       unfolding checksAt
       holds-any =
           behind AllHold (eqb at end) (check (refuse Frame at) (closes s x at) ∷ []) (frame ∷ cut ∷ before) (frame ∷ cut ∷ after)
-          (two-hold frame cut before after (section-any AllHold x at (λ h. (h .0, (h .1 .0, tt))) (numberAt s at)))
+          (two-hold frame cut before after (section-any AllHold x at (λ h. (h .0, tt)) (numberAt s at)))
 
       fails-any : (r : Refusal) → (numberOf (r .why) ≡ 8 → ⊥) → FirstFails r (checksAt baseChecks s end x at) → FirstFails r (checksAt anyDataChecks s end x at)
       unfolding checksAt refuse
       fails-any r other =
           behind (FirstFails r) (eqb at end) (check (refuse Frame at) (closes s x at) ∷ []) (frame ∷ cut ∷ before) (frame ∷ cut ∷ after)
           (two-fail r frame cut before after
-          (section-any (FirstFails r) x at (but-third r _ _ (refuse Data at) _ (λ e. other (sym (ap (λ (x : Refusal). numberOf (x .why)) e)))) (numberAt s at)))
+          (section-any (FirstFails r) x at (but-second r _ (refuse Data at) _ (λ e. other (sym (ap (λ (x : Refusal). numberOf (x .why)) e)))) (numberAt s at)))
 
     passed-any : {seen : List Seen} {at : ℕ} → Passed baseChecks s end seen at → Passed anyDataChecks s end seen at
     passed-any first = first
@@ -231,8 +230,8 @@ module _ (s : List ℕ) (x : Context) (at : ℕ) where
           (of-both (eqb n 4) (checks4 s x at) _ (refl, (refl, tt))
           (of-both (eqb n 5) (checks5 s x at) [] (refl, (refl, (refl, (refl, tt)))) tt))
 
-      go : (t : Bool) → eqb n 7 ≡ t → NoEight (cond t (anyDataChecks7 s x at) (baseChecks s x at n))
-      go true e = (refl, (refl, tt))
+      go : (t : Bool) → eqb n 7 ≡ t → NoEight (cond t (anyDataChecks7 s at) (baseChecks s x at n))
+      go true e = (refl, tt)
       go false e = four n (eqb n 7) e
 
   none-at : (end : ℕ) → NoEight (checksAt anyDataChecks s end x at)

@@ -56,7 +56,7 @@ good-body s first s3 at c next h three b =
     let same : binsAt s s3 * raysAt s s3 ≡ raysAt s s3 * binsAt s s3 = mul-comm (binsAt s s3) (raysAt s s3) in
     let exact =
     subst (λ (n : ℕ). gives (greatestIn s (record { section3 = s3; section4 = at; section5 = b .s5; section7 = b .s7 })) n (dataAt s (b .s7)) ≡ true) same
-    (k .seven .1 .1 .0) in
+    (k .seven .1 .0) in
     record {
       any = any-body s first s3 at c next h three (body s (endOf s) b);
       exact = subst (λ (d : Cut). gives (greatestIn s d) (raysIn s d * binsIn s d) (dataAt s (d .section7)) ≡ true) (sym (b .is)) exact;

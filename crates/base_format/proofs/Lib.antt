@@ -1,10 +1,9 @@
 pub mod Bounds
-pub mod Held
 pub mod Alike
 pub mod Says
+pub mod Held
 pub mod First
 pub mod Exact
 pub mod AnyData
-pub mod NoTwelve
 pub mod GoodCuts
 pub mod Products

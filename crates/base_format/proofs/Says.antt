@@ -5,21 +5,19 @@ use mathlib.Core.List.{List}
 use mathlib.Core.Bool.{true}
 use mathlib.Core.Logic.{_↔_, Iff·trans}
 use native.Mathlib.Omega.{arith}
-use borrow.Author.Tests.{eqb-true, le-leb}
-use lib.Dec.{eqb, leb}
+use borrow.Author.Tests.{eqb-true}
+use lib.Dec.{eqb}
 use lib.ListN.{drop}
 use Rattle.rules.specs.Rules.{meetsAll}
 use Rattle.base_format.specs.Rules.{scanRules, rules3, rules4, rules5}
 use Rattle.rules.specs.Fields.{lengthAt, raysAt, pointsAt, parameterAt}
 use Rattle.base_format.specs.Fields.{siteAt, greatestAt, countAt}
 use Rattle.rules.proofs.Bounds.{points-bound}
-use Rattle.base_format.proofs.Bounds.{greatest-bound}
 use Rattle.runs.specs.Run.{gives}
 use Rattle.runs.proofs.Meaning.{gives-exactly, exactly-gives}
 use Rattle.values.specs.declared.Product.{Product}
 use Rattle.values.specs.Table.{tableRight}
 use Rattle.values.specs.Published.{levelCount}
-use Rattle.values.proofs.Published.{count-le}
 use Rattle.values.proofs.Octets.{table-right, right-table}
 use Rattle.sections.specs.Refusal.{refuse}
 use Rattle.sections.specs.declared.Context.{Context}
@@ -27,7 +25,7 @@ use Rattle.sections.specs.Refused.{AllHold}
 use Rattle.sections.specs.Accepted.{sectionAt}
 use Rattle.sections.proofs.There.{AllThere, Known}
 use Rattle.sections.proofs.Alike.{field-alike, rays-alike, points-alike, parameter-alike}
-use Rattle.sections.proofs.Asks.{also, alike, equal, lengths, leasts, sure, done, named}
+use Rattle.sections.proofs.Asks.{also, alike, equal, lengths, leasts, done, named}
 use Rattle.sections.proofs.Says.{Says}
 use Rattle.sections.proofs.Inside.{either, OwnAt}
 use Rattle.base_format.specs.Parts.{productOf}
@@ -77,15 +75,6 @@ five s x at n h =
     (λ r. record { long = r .0; rules = r .1 .0; points = r .1 .1 .0; table = r .1 .1 .1 .0 })
     (λ k. (k .long, (k .rules, (k .points, (k .table, tt)))))
 
--- section 5 has held V to M, so that it is no more than 252
-low-v : (s : List ℕ) (s3 s4 s5 : ℕ) → Section5 (sectionAt s s3) (sectionAt s s4) (sectionAt s s5) → leb (greatestAt s s5) 253 ≡ true
-low-v s s3 s4 s5 fifth =
-    let product = productOf (parameterAt (sectionAt s s4) 0) in
-    let low = greatest-bound (sectionAt s s5) 0 (levelCount product) (fifth .rules) in
-    let l5 = fifth .long in
-    let v : greatestAt s s5 ≡ greatestAt (sectionAt s s5) 0 = greatest-alike s s5 (omega arith) in
-    le-leb (greatestAt s s5) 253 (omega (arith, count-le product))
-
 seven : (s : List ℕ) (x : Context) (at s4 : ℕ) → Known baseFormat s s4 (x .section3)
     → Section5 (sectionAt s (x .section3)) (sectionAt s s4) (sectionAt s (x .section5)) → AllThere s at
     → AllHold (baseChecks s x at 7) ↔ Section7 (sectionAt s (x .section3)) (sectionAt s (x .section5)) (sectionAt s at)
@@ -100,11 +89,10 @@ seven s x at s4 n fifth h =
     let octets = drop 5 (sectionAt s at) in
     named
     (also (leasts s at h 6 6 6 (omega arith) (omega arith) (λ le. refl)) (λ long.
-    also (sure (low-v s (x .section3) s4 (x .section5) fifth)) (λ b.
     also (Iff·trans (alike (λ i. gives (v i) (points i) (data-alike s at h (omega arith) i)))
-    (gives-exactly (greatestAt o5 0) (pointsAt o3 0) octets, exactly-gives (greatestAt o5 0) (pointsAt o3 0) octets)) (λ g. done))))
-    (λ r. record { long = r .0; bins = r .1 .1 .0 })
-    (λ k. (k .long, (tt, (k .bins, tt))))
+    (gives-exactly (greatestAt o5 0) (pointsAt o3 0) octets, exactly-gives (greatestAt o5 0) (pointsAt o3 0) octets)) (λ g. done)))
+    (λ r. record { long = r .0; bins = r .1 .0 })
+    (λ k. (k .long, (k .bins, tt)))
 
 long-four : (s : List ℕ) (x : Context) (at : ℕ) → AllHold (baseChecks s x at 4) → 30 ≤ lengthAt s at
 unfolding baseChecks
@@ -133,7 +121,7 @@ own-at s x at n =
     either (eqb n 3) at _ _ (refl, (refl, (refl, tt)))
     (either (eqb n 4) at _ _ (refl, (refl, tt))
     (either (eqb n 5) at _ _ (refl, (refl, (refl, (refl, tt))))
-    (either (eqb n 7) at _ _ (refl, (refl, (refl, tt))) tt)))
+    (either (eqb n 7) at _ _ (refl, (refl, tt)) tt)))
 
 -- ── every check but 8 ──
 
@@ -143,9 +131,9 @@ any-seven : (s : List ℕ) (x : Context) (at s4 : ℕ) → Known anyDataFormat s
 unfolding anyDataChecks
 any-seven s x at s4 n fifth h =
     named
-    (also (leasts s at h 6 6 6 (omega arith) (omega arith) (λ le. refl)) (λ long. also (sure (low-v s (x .section3) s4 (x .section5) fifth)) (λ b. done)))
+    (also (leasts s at h 6 6 6 (omega arith) (omega arith) (λ le. refl)) (λ long. done))
     (λ r. record { long = r .0 })
-    (λ k. (k .long, (tt, tt)))
+    (λ k. (k .long, tt))
 
 any-four : (s : List ℕ) (x : Context) (at : ℕ) → Known anyDataFormat s (x .first) (x .section3) → AllThere s at
     → AllHold (baseChecks s x at 4) ↔ Section4 (sectionAt s (x .first)) (sectionAt s (x .section3)) (sectionAt s at)
@@ -167,10 +155,6 @@ any-says =
       four-long = λ first s3 s4 k. let l = k .long in omega arith;
     }
 
-pub any-few-points : (s : List ℕ) (x : Context) (at : ℕ) → AllHold (anyDataChecks s x at 3) → pointsAt s at ≤ 2097152
-unfolding anyDataChecks
-any-few-points = few-points
-
 pub any-own-at : OwnAt anyDataChecks
 unfolding anyDataChecks refuse
-any-own-at s x at n = either (eqb n 7) at _ _ (refl, (refl, tt)) (own-at s x at n)
+any-own-at s x at n = either (eqb n 7) at _ _ (refl, tt) (own-at s x at n)

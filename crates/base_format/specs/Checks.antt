@@ -1,10 +1,8 @@
 -- FORMAT.md, "Refusals" and "Order of checks": the checks of sections 3, 4, 5 and 7, in that order: 4, 5, 6, 7, 8.
--- (12 stands before 8: a file call passes on what run reading answers.)
 use Prim.Native.Nat.{ℕ, _+_, _*_}
-use mathlib.Core.List.{List, [], _∷_}
+use mathlib.Core.List.{List, [], _∷_, _++_}
 use mathlib.Core.Bool.{cond}
 use lib.Dec.{leb, eqb}
-use lib.ListN.{take}
 use Rattle.rules.specs.Rules.{field, meetsAll}
 use Rattle.base_format.specs.Rules.{rules3, rules4, rules5}
 use Rattle.rules.specs.Fields.{lengthAt, raysAt, pointsAt, parameterAt}
@@ -15,7 +13,7 @@ use Rattle.values.specs.Table.{tableRight}
 use Rattle.sections.specs.Checks.{Check, check, FormatChecks}
 use Rattle.sections.specs.declared.Context.{Context}
 use Rattle.sections.specs.Refusal.{refuse}
-use Rattle.sections.specs.declared.Why.the-variants.{SectionLength, Field, Points, Table, Data, «V»}
+use Rattle.sections.specs.declared.Why.the-variants.{SectionLength, Field, Points, Table, Data}
 use Rattle.base_format.specs.Parts.{productOf, tableAt, dataAt}
 
 abbrev pub checks3 : List ℕ → ℕ → List Check
@@ -42,12 +40,12 @@ pastLength5 s x at =
 abbrev pub checks5 : List ℕ → Context → ℕ → List Check
 checks5 s x at = check (refuse SectionLength at) (eqb (lengthAt s at) (17 + 2 * countAt s at)) ∷ pastLength5 s x at
 
+-- the data is looked at last: 8
+abbrev pub anyDataChecks7 : List ℕ → ℕ → List Check
+anyDataChecks7 s at = check (refuse SectionLength at) (leb 6 (lengthAt s at)) ∷ []
+
 abbrev pub checks7 : List ℕ → Context → ℕ → List Check
-checks7 s x at =
-    check (refuse SectionLength at) (leb 6 (lengthAt s at))
-    ∷ check (refuse «V» at) (leb (greatestAt s (x .section5)) 253)
-    ∷ check (refuse Data at) (gives (greatestAt s (x .section5)) (pointsAt s (x .section3)) (dataAt s at))
-    ∷ []
+checks7 s x at = anyDataChecks7 s at ++ (check (refuse Data at) (gives (greatestAt s (x .section5)) (pointsAt s (x .section3)) (dataAt s at)) ∷ [])
 
 unfoldable pub baseChecks : FormatChecks
 baseChecks s x at n =
@@ -56,9 +54,6 @@ baseChecks s x at n =
     (cond (eqb n 5) (checks5 s x at)
     (cond (eqb n 7) (checks7 s x at) [])))
 
--- FORMAT.md, "Rays by a record": "every file check but 8", which is the last
-abbrev pub anyDataChecks7 : List ℕ → Context → ℕ → List Check
-anyDataChecks7 s x at = take 2 (checks7 s x at)
-
+-- FORMAT.md, "Rays by a record": "every file check but 8"
 unfoldable pub anyDataChecks : FormatChecks
-anyDataChecks s x at n = cond (eqb n 7) (anyDataChecks7 s x at) (baseChecks s x at n)
+anyDataChecks s x at n = cond (eqb n 7) (anyDataChecks7 s at) (baseChecks s x at n)

@@ -218,34 +218,30 @@ fn judge5(s: &[u8], x: Context, at: usize) -> Judged
     }
 }
 
+// The checks before it have held the bins and V to what a scan takes.
 pub fn judge7(s: &[u8], x: Context, at: usize) -> Judged
     requires { ⌜ at + lengthAt (now s) at ≤ length (now s) ⌝ }
-    requires { ⌜ pointsAt (now s) (x .section3) ≤ 2097152 ⌝ }
+    requires { ⌜ (pointsAt (now s) (x .section3) ≤ 2097152) × (greatestAt (now s) (x .section5) ≤ 252) ⌝ }
     ensures { λ r. ⌜ r ≡ firstFault (checks7 (now (s .entry)) x at) ⌝ }
 {
     let len = rules::length_at(s, at);
     if len < 6 {
         return sections::refused(Why::SectionLength, at);
     }
-    let v = greatest_at(s, x.section5);
-    if 253 < v {
-        return sections::refused(Why::V, at);
-    }
+    let v = greatest_at(s, x.section5) as u8;
     let bins = rules::points_at(s, x.section3) as usize;
-    if data_at(s, at, v as u8, bins) {
+    if data_at(s, at, v, bins) {
         return Judged::Accepted;
     }
     sections::refused(Why::Data, at)
 }
 
 // The same but for the data.
-pub fn judge_any7(s: &[u8], x: Context, at: usize) -> Judged
-    ensures { λ r. ⌜ r ≡ firstFault (anyDataChecks7 (now (s .entry)) x at) ⌝ }
+pub fn judge_any7(s: &[u8], at: usize) -> Judged
+    ensures { λ r. ⌜ r ≡ firstFault (anyDataChecks7 (now (s .entry)) at) ⌝ }
 {
     let len = rules::length_at(s, at);
-    let v = greatest_at(s, x.section5);
-    let low = sections::check(v <= 253, Why::V, at, sections::accepted());
-    sections::check(6 <= len, Why::SectionLength, at, low)
+    sections::check(6 <= len, Why::SectionLength, at, sections::accepted())
 }
 
 // The checks of a section of the format's own other than a 7, which has its functions above.

@@ -1,33 +1,11 @@
--- A refusal is read back whole from its word, and its word is never 0.
+-- A refusal is read back whole from its word, and its word is never 0; a file's has never the number 12.
 use Prim.Native.Nat.{ℕ, _+_, _*_, _≤_, _<_}
 use mathlib.Core.Path.{_≡_, sym, _∙_, ap}
 use native.Mathlib.Omega.{arith}
 use Rattle.sections.specs.Refusal.{numberOf}
 use Rattle.sections.specs.declared.Refusal.{Refusal}
-use Rattle.sections.specs.declared.Why.{Why}
-use Rattle.sections.specs.declared.Why.the-variants.{FileSize, Section0, Frame, SectionLength, Field, Points, Table, Data, CutCount, Argument, Room, «V», Record, Unread}
+use Rattle.sections.proofs.Numbers.{numbered}
 use Rattle.c_words.specs.Word.{refusalWord, wordOf, numberIn, placeIn, InWord}
-
--- numbers are 1 to 14
-pub record Numbered (n : ℕ) : Type 0 where
-  pub some : 1 ≤ n
-  pub few : n ≤ 14
-
-pub numbered : (why : Why) → Numbered (numberOf why)
-numbered FileSize = record { some = omega arith; few = omega arith }
-numbered Section0 = record { some = omega arith; few = omega arith }
-numbered Frame = record { some = omega arith; few = omega arith }
-numbered SectionLength = record { some = omega arith; few = omega arith }
-numbered Field = record { some = omega arith; few = omega arith }
-numbered Points = record { some = omega arith; few = omega arith }
-numbered Table = record { some = omega arith; few = omega arith }
-numbered Data = record { some = omega arith; few = omega arith }
-numbered CutCount = record { some = omega arith; few = omega arith }
-numbered Argument = record { some = omega arith; few = omega arith }
-numbered Room = record { some = omega arith; few = omega arith }
-numbered «V» = record { some = omega arith; few = omega arith }
-numbered Record = record { some = omega arith; few = omega arith }
-numbered Unread = record { some = omega arith; few = omega arith }
 
 pub number-back : (n place : ℕ) → n < 256 → numberIn (refusalWord n place) ≡ n
 number-back n place h = omega arith
@@ -38,6 +16,9 @@ place-back n place h = omega arith
 -- of a refusal: its number and its place, and that it is not taken for an answer
 pub number-read : (r : Refusal) → numberIn (wordOf r) ≡ numberOf (r .why)
 number-read r = let k = numbered (r .why) in number-back (numberOf (r .why)) (r .place) (omega arith)
+
+pub word-not-twelve : (r : Refusal) → numberIn (wordOf r) ≡ 12 → ⊥
+word-not-twelve r e = numbered (r .why) .not-twelve (sym (number-read r) ∙ e)
 
 pub place-read : (r : Refusal) → placeIn (wordOf r) ≡ r .place
 place-read r = let k = numbered (r .why) in place-back (numberOf (r .why)) (r .place) (omega arith)

@@ -1,69 +1,106 @@
--- No call on a file answers 12, whatever its octets and arguments: not the file's own checks (base_format `NoTwelve.antt`), and what a call asks of a cut is 10, 11
--- or 13.
-use Prim.Native.Nat.{ℕ, min}
-use mathlib.Core.Path.{_≡_, refl}
+-- NO 12. A refusal of a file has no such number. And nothing is lost by that: where a section 7 is judged, run read and run check, asked about the same data, V and bins,
+-- never answer 12 (V over 253), and run check refuses by 8 exactly where the section's own checks do. The idea: the sections 3 and 5 last seen have passed, and hold the bins
+-- and V (base_format `Held.antt`).
+use Prim.Native.Nat.{ℕ, _≤_, _<_}
+use mathlib.Core.Path.{_≡_, refl, sym, _∙_}
+use mathlib.Core.Logic.{_↔_}
 use mathlib.Core.List.{List}
-use mathlib.Core.Bool.{false}
-use borrow.Author.Tests.{eqb-false}
-use lib.Dec.{eqb}
+use mathlib.Core.Bool.{Bool, true, false, false≢true}
+use native.Mathlib.Omega.{arith}
+use borrow.Author.Tests.{le-leb}
+use lib.Dec.{leb}
 use lib.ListN.{length}
-use lib.IntN.{ℤ}
-use Rattle.sections.specs.Refusal.{refuse, numberOf}
-use Rattle.sections.specs.Checks.{FormatChecks}
-use Rattle.sections.specs.Accepted.{Format}
-use Rattle.sections.specs.Refused.{RefusedBy}
-use Rattle.sections.specs.declared.Cut.{Cut}
+use Rattle.rules.specs.Fields.{lengthAt, numberAt, pointsAt}
+use Rattle.runs.specs.Run.{gives}
+use Rattle.runs.specs.Runs.{Exactly}
+use Rattle.runs.proofs.Meaning.{gives-exactly, exactly-gives}
+use Rattle.bare.specs.Read.{ReadPromise, CheckPromise}
+use Rattle.bare.specs.Reasons.{ReadReason, CheckReason}
+use Rattle.bare.specs.declared.RunRead.the-variants as R
+use Rattle.bare.specs.declared.ReadRefusal.the-variants as F
+use Rattle.bare.specs.declared.RunCheck.{RunCheck}
+use Rattle.bare.specs.declared.RunCheck.the-variants as K
+use Rattle.bare.specs.declared.CheckRefusal.the-variants as C
+use Rattle.bare.proofs.Reasons.{read-reason, check-reason, reason-check}
+use Rattle.sections.specs.Refusal.{numberOf, refuse}
+use Rattle.sections.specs.Checks.{FormatChecks, framed}
+use Rattle.sections.specs.History.{Seen, previous, lastSeen, contextOf}
+use Rattle.sections.specs.Refused.{FirstFails, this, later, Passed}
+use Rattle.sections.specs.Verdict.{endOf, firstFault}
 use Rattle.sections.specs.declared.Refusal.{Refusal}
-use Rattle.base_format.specs.Checks.{baseChecks}
-use Rattle.base_format.specs.Accepted.{baseFormat}
-use Rattle.base_format.proofs.NoTwelve.{never-twelve}
-use Rattle.calls.specs.Reasons.{Reason, CutReason, by-file, no-cut, on-cut, by-argument, by-room, by-record}
-use Rattle.calls.specs.declared.RayAnswer.the-variants as R
-use Rattle.calls.specs.declared.BinAnswer.the-variants as B
-use Rattle.polar.specs.Promises.{OpenPromise, CutPromise, LevelsPromise, ValuesPromise, BinPromise, StretchesPromise}
-use Rattle.polar.specs.Stretching.{house}
-use Rattle.polar.specs.declared.Opened.the-variants as O
-use Rattle.polar.specs.declared.CutAnswer.the-variants as C
-use Rattle.polar.specs.declared.StretchAnswer.the-variants as S
-use Rattle.demands.proofs.Demand1.{open-refused, cut-refused, levels-refused, values-refused, bin-refused, stretches-refused}
+use Rattle.sections.specs.declared.Why.the-variants.{Data}
+use Rattle.sections.specs.declared.Judged.the-variants as J
+use Rattle.sections.proofs.Framed.{framed-is}
+use Rattle.sections.proofs.Numbers.{numbered}
+use Rattle.sections.proofs.Order.{before-seven}
+use Rattle.sections.proofs.Faults.{first-wrong}
+use Rattle.base_format.specs.Fields.{greatestAt}
+use Rattle.base_format.specs.Parts.{dataAt}
+use Rattle.base_format.specs.Checks.{checks7}
+use Rattle.base_format.proofs.Held.{LikeBase, held-few, held-low}
 
--- a refusal by another number
-abbrev pub NotTwelve : Refusal → Type 0
-NotTwelve q = numberOf (q .why) ≡ 12 → ⊥
+pub not-twelve : (r : Refusal) → numberOf (r .why) ≡ 12 → ⊥
+not-twelve r = numbered (r .why) .not-twelve
 
--- of any call on a cut, by any format whose checks never come to 12
-pub reason-not-twelve : (own : FormatChecks) (format : Format) (s : List ℕ) (i : ℕ) (Wrong Short Unfit : Cut → Type 0)
-    → ((r : Refusal) → RefusedBy own s r → eqb (numberOf (r .why)) 12 ≡ false)
-    → (q : Refusal) → Reason own format s i (λ c. CutReason c (Wrong c) (Short c) (Unfit c)) q → NotTwelve q
-unfolding refuse
-reason-not-twelve own format s i W S U never q (by-file h) = eqb-false _ _ (never q h)
-reason-not-twelve own format s i W S U never q (no-cut k le) = eqb-false 10 12 refl
-reason-not-twelve own format s i W S U never q (on-cut k lt (by-argument w)) = eqb-false 10 12 refl
-reason-not-twelve own format s i W S U never q (on-cut k lt (by-room w short)) = eqb-false 11 12 refl
-reason-not-twelve own format s i W S U never q (on-cut k lt (by-record w fits u)) = eqb-false 13 12 refl
+-- a section 7 that is judged: every section before it passes, and it may stand where it does
+pub record AtSeven (own : FormatChecks) (s : List ℕ) (seen : List Seen) (at : ℕ) : Type 0 where
+  pub passed : Passed own s (endOf s) seen at
+  pub frame : framed s (endOf s) (contextOf seen at) at ≡ true
+  pub number : numberAt s at ≡ 7
 
-module _ (s : List ℕ) (q : Refusal) where
-  pub open-not-twelve : OpenPromise s (O.Refused q) → NotTwelve q
-  open-not-twelve p = eqb-false _ _ (never-twelve s q (open-refused s q p))
+-- of a file, and of one whose data may be anything
+module _ (own : FormatChecks) (like : LikeBase own) (s : List ℕ) (seen : List Seen) (at : ℕ) (h : AtSeven own s seen at) where
+  -- its V and its bins
+  abbrev pub v : ℕ
+  v = greatestAt s (lastSeen 5 seen)
 
-  module _ (i : ℕ) where
-    by-reason : (Wrong Short : Cut → Type 0) → Reason baseChecks baseFormat s i (λ c. CutReason c (Wrong c) (Short c) ⊥) q → NotTwelve q
-    by-reason W S h = reason-not-twelve baseChecks baseFormat s i W S (λ c. ⊥) (never-twelve s) q h
+  abbrev pub bins : ℕ
+  bins = pointsAt s (lastSeen 3 seen)
 
-    pub cut-not-twelve : CutPromise s i (C.Refused q) → NotTwelve q
-    cut-not-twelve p = by-reason _ _ (cut-refused s i q p)
+  six : previous seen ≡ 6
+  unfolding contextOf
+  six = before-seven _ _ (framed-is s (endOf s) (contextOf seen at) at (h .frame) .allowed) (h .number)
 
-    pub levels-not-twelve : (ray : ℕ) (out out′ : List ℕ) → LevelsPromise s i ray out (R.Refused q) out′ → NotTwelve q
-    levels-not-twelve ray out out′ p = by-reason _ _ (levels-refused s i ray q out out′ p .0)
+  low : v ≤ 252
+  low = let six = six in held-low own like s (h .passed) (omega arith)
 
-    pub values-not-twelve : (ray : ℕ) (marks marks′ : List ℕ) (values values′ : List ℤ) → ValuesPromise s i ray marks values (R.Refused q) marks′ values′ → NotTwelve q
-    values-not-twelve ray marks marks′ values values′ p = by-reason _ _ (values-refused s i ray q marks marks′ values values′ p .0)
+  few : bins ≤ 2097152
+  few = let six = six in held-few own like s (h .passed) (omega arith)
 
-    pub bin-not-twelve : (ray bin : ℕ) → BinPromise s i ray bin (B.Refused q) → NotTwelve q
-    bin-not-twelve ray bin p = by-reason _ _ (bin-refused s i ray bin q p)
+  pub read-not-twelve : (d out : List ℕ) → ReadPromise v bins (dataAt s at) d (R.Refused F.V) out → ⊥
+  read-not-twelve d out p = go (read-reason v bins (dataAt s at) d out F.V p)
+    where
+      go : ReadReason v bins (length d) (dataAt s at) F.V → ⊥
+      go (ReadReason.by-v over) = let v-low = low in omega arith
 
-    pub stretches-not-twelve : (t : ℤ) (ray bin : ℕ) (words words′ : List ℕ) → StretchesPromise s i t ray bin words (S.Refused q) words′ → NotTwelve q
-    stretches-not-twelve t ray bin words words′ p = by-reason _ _ (stretches-refused s i t ray bin words words′ q p .0)
+  pub check-not-twelve : CheckPromise v bins (dataAt s at) (K.Refused C.V) → ⊥
+  check-not-twelve p = go (check-reason v bins (dataAt s at) C.V p)
+    where
+      go : CheckReason v bins (dataAt s at) C.V → ⊥
+      go (CheckReason.by-v over) = let v-low = low in omega arith
 
-    pub house-not-twelve : (ray bin : ℕ) (words words′ : List ℕ) → StretchesPromise s i house ray bin words (S.Refused q) words′ → NotTwelve q
-    house-not-twelve = stretches-not-twelve house
+  -- 8, where the section is long enough to have data
+  module _ (long : 6 ≤ lengthAt s at) where
+    -- the checks of a section 7 by what its data gives
+    given : (g : Bool) → gives v bins (dataAt s at) ≡ g → FirstFails (refuse Data at) (checks7 s (contextOf seen at) at) ↔ (g ≡ false)
+    unfolding contextOf
+    given true e = (
+      (λ f. let z = first-wrong (checks7 s (contextOf seen at) at) (refuse Data at) f in
+          let j : J.Accepted ≡ J.Refused (refuse Data at) = rw (le-leb 6 (lengthAt s at) long, e) at z in
+          let no : _≡_ {A = ℕ} 0 1 = cc j in absurd (omega arith)),
+      (λ f. absurd (false≢true (sym f))),
+    )
+    given false e = ((λ f. refl), (λ f. later (le-leb 6 (lengthAt s at) long) (this e)))
+
+    pub same-eight : (a : RunCheck) → CheckPromise v bins (dataAt s at) a → (a ≡ K.Refused C.Data) ↔ FirstFails (refuse Data at) (checks7 s (contextOf seen at) at)
+    same-eight a p = go (gives v bins (dataAt s at)) refl
+      where
+        go : (g : Bool) → gives v bins (dataAt s at) ≡ g → (a ≡ K.Refused C.Data) ↔ FirstFails (refuse Data at) (checks7 s (contextOf seen at) at)
+        go true e = ((λ q. absurd (no-reason (check-reason v bins (dataAt s at) C.Data (rw (sym q) p)))), (λ f. absurd (false≢true (sym (given true e .0 f)))))
+          where
+            no-reason : CheckReason v bins (dataAt s at) C.Data → ⊥
+            no-reason (CheckReason.by-data x y none) = none (gives-exactly v bins (dataAt s at) e)
+        go false e = (
+          (λ q. given false e .1 refl),
+          (λ f. reason-check v bins (dataAt s at) C.Data a (CheckReason.by-data (let l = low in omega arith) few (λ x. false≢true (sym e ∙ exactly-gives v bins (dataAt s at) x))) p),
+        )

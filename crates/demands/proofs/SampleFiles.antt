@@ -148,9 +148,9 @@ abbrev pub wind : List ℕ
 wind = file 680 (three 4 4 1 35859722 0 ++ four 2 47695 130 1 ++ five 4 251 251 velocityTable ++ rest (158 ∷ 160 ∷ 161 ∷ 0 ∷ []))
 
 -- two cuts, each with a section 3 of its own: one ray of two bins at latitude -0.000005, of 5.60 dBZ and no data, its elevation missing; three rays of one bin at latitude
--- 0.000007, of 39.84 dBZ, 40.16 dBZ and no data, its elevation -0.05. With what may be spoiled: the second cut's parameter and site
-abbrev pub likeTwo : ℕ → ℕ → List ℕ
-likeTwo parameter site =
+-- 0.000007, of 39.84 dBZ, 40.16 dBZ and no data, its elevation -0.05. With what may be spoiled: the second cut's parameter, site and V
+abbrev pub likeTwo : ℕ → ℕ → ℕ → List ℕ
+likeTwo parameter site v =
     file 1328
     (three 2 2 1 0x80000005 0
     ++ four 1 47695 0xFFFF 1
@@ -158,17 +158,21 @@ likeTwo parameter site =
     ++ rest (19 ∷ 0 ∷ [])
     ++ three 3 1 3 7 0
     ++ four parameter site 0x8005 3
-    ++ five 3 252 252 reflectivityTable
+    ++ five 3 v 252 reflectivityTable
     ++ rest (126 ∷ 127 ∷ 0 ∷ []))
 
 abbrev pub twoCuts : List ℕ
-twoCuts = likeTwo 1 47695
+twoCuts = likeTwo 1 47695 252
 
 abbrev pub otherParameter : List ℕ
-otherParameter = likeTwo 2 47695
+otherParameter = likeTwo 2 47695 252
 
 abbrev pub otherSite : List ℕ
-otherSite = likeTwo 1 47696
+otherSite = likeTwo 1 47696 252
+
+-- its own section 5 says V 253, under which runs could be read
+abbrev pub greaterV : List ℕ
+greaterV = likeTwo 1 47695 253
 
 -- ── the verdicts ──
 
@@ -186,6 +190,7 @@ pub record Verdicts : Type 0 where
   pub length-by-m : verdict lengthNotByM ≡ refused (refuse SectionLength 146)
   pub parameter-compared : verdict otherParameter ≡ refused (refuse Field 717)
   pub site-compared : verdict otherSite ≡ refused (refuse Field 717)
+  pub v-compared : verdict greaterV ≡ refused (refuse Field 789)
 
 pub verdicts : Verdicts
 unfolding be same inOctets field meets meetsAll rules0 rules1 rules3 rules4 rules5 rules6 rules8 lengthAt numberAt binsAt raysAt pointsAt parameterAt siteAt greatestAt countAt levels digitSum gives levelCount reflectivity velocityEven velocity published valuesFrom tableOf signMagnitude octetsOf tableOctets tableRight refuse follows framed roomForCut sectionChecks closes checksAt lastSeen firstSeen cutsOf cutsSeen contextOf sections sized verdictBy productOf tableAt dataAt baseChecks anyDataChecks
@@ -203,4 +208,5 @@ verdicts =
       length-by-m = refl;
       parameter-compared = refl;
       site-compared = refl;
+      v-compared = refl;
     }

@@ -46,7 +46,7 @@ use Rattle.polar.specs.declared.CutAnswer.the-variants as C
 use Rattle.polar.specs.declared.Elevation.the-variants.{Missing, Hundredths}
 use Rattle.polar.specs.declared.StretchAnswer.{StretchAnswer}
 use Rattle.polar.specs.declared.StretchAnswer.the-variants as S
-use Rattle.demands.proofs.SampleFiles.{document, dataShort, longOne, longSix, fieldAndPoints, pointsAndTable, lengthNotByM, wind, twoCuts, otherParameter, otherSite, verdicts}
+use Rattle.demands.proofs.SampleFiles.{document, dataShort, longOne, longSix, fieldAndPoints, pointsAndTable, lengthNotByM, wind, twoCuts, otherParameter, otherSite, greaterV, verdicts}
 
 -- ── the file's own refusals ──
 
@@ -85,6 +85,10 @@ parameter-compared = open-by otherParameter _ (verdicts .parameter-compared)
 -- nor octets 29-30
 pub site-compared : (r : Opened) → OpenPromise otherSite r → r ≡ O.Refused (refuse Field 717)
 site-compared = open-by otherSite _ (verdicts .site-compared)
+
+-- V of a later cut's own section 5 not compared with M
+pub v-compared : (r : Opened) → OpenPromise greaterV r → r ≡ O.Refused (refuse Field 789)
+v-compared = open-by greaterV _ (verdicts .v-compared)
 
 -- ── open and cut ──
 

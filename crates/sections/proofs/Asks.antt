@@ -41,10 +41,6 @@ leasts s at h m due due' le le' e = (
   (λ k. let d = e (omega arith) in le-leb due (lengthAt s at) (omega arith)),
 )
 
--- a check that cannot fail
-pub sure : {p : Bool} → p ≡ true → (p ≡ true) ↔ Unit {0}
-sure e = ((λ h. tt), (λ k. e))
-
 -- no check is left
 pub done : Unit {0} ↔ Unit {0}
 done = ((λ h. h), (λ k. k))

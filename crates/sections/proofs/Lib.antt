@@ -11,3 +11,4 @@ pub mod Exact
 pub mod Each
 pub mod Inside
 pub mod Held
+pub mod Numbers

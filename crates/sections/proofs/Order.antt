@@ -66,6 +66,16 @@ past-number n p m some few h k = go (follow p m h)
     go (f73 a b) = omega arith
     go (f74 a b) = omega arith
 
--- a section of number 4 or more comes past a section 3
-pub past-three : (p n : ℕ) → follows p n ≡ true → 4 ≤ n → 3 ≤ p
-past-three p n h k = past-number 3 p n (omega arith) (omega arith) h k
+-- a 7 comes after a 6
+pub before-seven : (p n : ℕ) → follows p n ≡ true → n ≡ 7 → p ≡ 6
+before-seven p n h k = go (follow p n h)
+  where
+    go : Follow p n → p ≡ 6
+    go (f01 a b) = absurd (omega arith)
+    go (f13 a b) = absurd (omega arith)
+    go (f34 a b) = absurd (omega arith)
+    go (f45 a b) = absurd (omega arith)
+    go (f56 a b) = absurd (omega arith)
+    go (f67 a b) = a
+    go (f73 a b) = absurd (omega arith)
+    go (f74 a b) = absurd (omega arith)

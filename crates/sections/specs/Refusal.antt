@@ -3,7 +3,7 @@
 use Prim.Native.Nat.{ℕ}
 use Rattle.sections.specs.declared.Refusal.{Refusal}
 use Rattle.sections.specs.declared.Why.{Why}
-use Rattle.sections.specs.declared.Why.the-variants.{FileSize, Section0, Frame, SectionLength, Field, Points, Table, Data, CutCount, Argument, Room, «V», Record, Unread}
+use Rattle.sections.specs.declared.Why.the-variants.{FileSize, Section0, Frame, SectionLength, Field, Points, Table, Data, CutCount, Argument, Room, Record, Unread}
 
 abbrev pub numberOf : Why → ℕ
 numberOf FileSize = 1
@@ -17,7 +17,6 @@ numberOf Data = 8
 numberOf CutCount = 9
 numberOf Argument = 10
 numberOf Room = 11
-numberOf «V» = 12
 numberOf Record = 13
 numberOf Unread = 14
 

@@ -14,7 +14,7 @@ ghost use Rattle.sections.specs.Parts.{binsIn, raysIn, timeOf, gridAt};
 ghost use Rattle.sections.specs.Checks.{follows, framed, roomForCut, closes, checks1, checks6};
 ghost use Rattle.sections.specs.Verdict.{firstFault};
 
-// Why a call on a file is refused: one case for each number of specs/Refusal.antt.
+// Why a call on a file is refused: one case for each number of specs/Refusal.antt. (12 is of the run calls alone: section 5 holds V.)
 pub enum Why {
     // 1: the lent file is under 20 or over 8,388,608 octets
     FileSize,
@@ -38,8 +38,6 @@ pub enum Why {
     Argument,
     // 11: lent room too short
     Room,
-    // 12: V over 253, by which runs have no base
-    V,
     // 13: a record by which no ray can be read
     Record,
     // 14: a packing or a scan mode that is not read
@@ -115,7 +113,6 @@ pub fn number_of(why: Why) -> u32
         Why::CutCount => 9,
         Why::Argument => 10,
         Why::Room => 11,
-        Why::V => 12,
         Why::Record => 13,
         Why::Unread => 14,
     }

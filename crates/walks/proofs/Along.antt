@@ -8,15 +8,15 @@ use borrow.Author.Tests.{eqb-true, eqb-false, ltb-true, ltb-false, ne-eqb}
 use lib.ListN.{length, getD, length-append, List·getD-append, List·getD-eq-default}
 use lib.Seq.{getD-at}
 use lib.Dec.{ltb, eqb}
-use Rattle.rules.specs.Fields.{lengthAt, numberAt, pointsAt}
-use Rattle.sections.specs.Checks.{FormatChecks, checksAt, sectionChecks}
+use Rattle.rules.specs.Fields.{lengthAt, numberAt}
+use Rattle.sections.specs.Checks.{FormatChecks, checksAt}
 use Rattle.sections.specs.declared.Context.{Context}
 use Rattle.sections.specs.History.{Seen, seenAt, previous, lastSeen, firstSeen, cutsOf, cutsSeen, contextOf}
 use Rattle.sections.specs.Verdict.{accepted, refused, firstFault, sections, noCut}
 use Rattle.walks.specs.Answer.{answerFor}
 use Rattle.walks.specs.Places.{contextIn}
-use Rattle.walks.specs.Walk.{past, cutEnded, chosenAfter, Sound, stepFrom, stepOf}
-use Rattle.sections.specs.Refused.{AllHold}
+use Rattle.walks.specs.Walk.{past, cutEnded, chosenAfter, stepFrom, stepOf}
+use Rattle.sections.specs.Refused.{Passed, first, then}
 use Rattle.walks.specs.declared.State.{State}
 use Rattle.sections.specs.declared.Cut.{Cut}
 use Rattle.sections.specs.declared.Refusal.{Refusal}
@@ -24,9 +24,7 @@ use Rattle.sections.specs.declared.Judged.{Judged}
 use Rattle.sections.specs.declared.Judged.the-variants as J
 use Rattle.walks.specs.declared.Step.the-variants.{Next, Done, Refused}
 use Rattle.walks.specs.declared.Walked.the-variants as W
-use Rattle.sections.proofs.Framed.{framed-is}
-use Rattle.sections.proofs.Order.{past-three}
-use Rattle.sections.proofs.Faults.{Clean, fine-all, fine-framed, clean}
+use Rattle.sections.proofs.Faults.{fine-all, fine-framed}
 use Rattle.sections.proofs.Sections.{judgedAt, sections-refused, sections-done, sections-next, count-cuts}
 
 -- ── the state mirrors the history ──
@@ -159,31 +157,6 @@ same-checks : (own : FormatChecks) (s : List ℕ) (end : ℕ) (st : State) (seen
 same-checks own s end st seen j m h =
     ap (λ (x : Context). firstFault (checksAt own s end x (st .at))) (sym (context-same st seen m)) ∙ h
 
--- ── past a section 3 the points are few ──
-
--- a format whose section 3, once it passes, has no more points than that
-abbrev pub Few : FormatChecks → Type 0
-Few own = (s : List ℕ) (x : Context) (at : ℕ) → AllHold (own s x at 3) → pointsAt s at ≤ 2097152
-
-three-points : (own : FormatChecks) → Few own → (s : List ℕ) (x : Context) (at n : ℕ) → n ≡ 3 → AllHold (sectionChecks own s x at n) → pointsAt s at ≤ 2097152
-unfolding sectionChecks
-three-points own few s x at n e h = few s x at (subst (λ (m : ℕ). AllHold (sectionChecks own s x at m)) e h)
-
-points-past : (own : FormatChecks) → Few own → (s : List ℕ) (end : ℕ) (st : State) → (st .at ≡ end → ⊥) → firstFault (checksAt own s end (contextIn st) (st .at)) ≡ J.Accepted
-    → (3 ≤ st .previous → pointsAt s (st .section3) ≤ 2097152)
-    → (n len : ℕ) → n ≡ numberAt s (st .at) → 3 ≤ n → pointsAt s (past st n len .section3) ≤ 2097152
-unfolding past
-points-past own few s end st ne h old n len e le =
-    go (eqb n 3) refl (clean own s end (contextIn st) (st .at) ne (fine-all (checksAt own s end (contextIn st) (st .at)) h))
-  where
-    go : (t : Bool) → eqb n 3 ≡ t → Clean own s end (contextIn st) (st .at) → pointsAt s (cond (eqb n 3) (st .at) (st .section3)) ≤ 2097152
-    go true p k = rw p (three-points own few s (contextIn st) (st .at) (numberAt s (st .at)) (sym e ∙ eqb-true _ _ p) (k .its-own))
-    go false p k =
-        let fr = framed-is s end (contextIn st) (st .at) (k .frame) in
-        let other : n ≡ 3 → ⊥ = eqb-false _ _ p in
-        let four : 4 ≤ numberAt s (st .at) = omega arith in
-        rw p (old (past-three (st .previous) (numberAt s (st .at)) (fr .allowed) four))
-
 -- ── the loop's invariant ──
 
 pub record Along (own : FormatChecks) (s : List ℕ) (end want : ℕ) (st : State) (chosen : Cut) : Type 0 where
@@ -193,8 +166,10 @@ pub record Along (own : FormatChecks) (s : List ℕ) (end want : ℕ) (st : Stat
   pub enough : length s < st .at + fuel
   pub later : 0 < st .at
   pub inside : st .at ≤ end
+  pub end-in : end ≤ length s
+  pub passed : Passed own s end seen (st .at)
   pub mirrors : Mirrors st seen
-  pub sound : Sound s end st
+  pub few : st .cuts ≤ st .at
   pub kept : chosen ≡ getD (cutsOf seen) want noCut
 
 few-past : (st : State) (n len : ℕ) → 5 ≤ len → st .cuts ≤ st .at → past st n len .cuts ≤ past st n len .at
@@ -213,13 +188,13 @@ past-previous : (st : State) (n len : ℕ) → past st n len .previous ≡ n
 unfolding past
 past-previous st n len = refl
 
-module _ (own : FormatChecks) (few : Few own) (s : List ℕ) (end want : ℕ) (st : State) (chosen : Cut) (a : Along own s end want st chosen) where
+module _ (own : FormatChecks) (s : List ℕ) (end want : ℕ) (st : State) (chosen : Cut) (a : Along own s end want st chosen) where
   go-next : (f : ℕ) → f ≡ a .fuel → firstFault (checksAt own s end (contextIn st) (st .at)) ≡ J.Accepted → (st .at ≡ end → ⊥)
       → Along own s end want (past st (numberAt s (st .at)) (lengthAt s (st .at))) (chosenAfter want st (numberAt s (st .at)) chosen)
   go-next zero e h ne =
       let inside = a .inside in
       let enough = a .enough in
-      let end-in = a .sound .end-in in
+      let end-in = a .end-in in
       absurd (omega arith)
   go-next (suc f) e h ne =
       let n = numberAt s (st .at) in
@@ -230,8 +205,9 @@ module _ (own : FormatChecks) (few : Few own) (s : List ℕ) (end want : ℕ) (s
       let at' = past-at st n len in
       let enough = a .enough in
       let later = a .later in
+      let fine = same-checks own s end st (a .seen) J.Accepted (a .mirrors) h in
       let there : sections own (a .fuel) s end (a .seen) (st .at) ≡ sections own f s end (seenAt s (st .at) ∷ a .seen) (st .at + len) =
-      ap (λ (k : ℕ). sections own k s end (a .seen) (st .at)) (sym e) ∙ sections-next own f s end (a .seen) (st .at) (same-checks own s end st (a .seen) J.Accepted (a .mirrors) h) ne in
+      ap (λ (k : ℕ). sections own k s end (a .seen) (st .at)) (sym e) ∙ sections-next own f s end (a .seen) (st .at) fine ne in
       record {
         fuel = f;
         seen = seenAt s (st .at) ∷ a .seen;
@@ -239,13 +215,10 @@ module _ (own : FormatChecks) (few : Few own) (s : List ℕ) (end want : ℕ) (s
         enough = omega arith;
         later = omega arith;
         inside = omega arith;
+        end-in = a .end-in;
+        passed = subst (Passed own s end (seenAt s (st .at) ∷ a .seen)) (sym at') (then (a .passed) ne (fine-all (checksAt own s end (contextOf (a .seen) (st .at)) (st .at)) fine));
         mirrors = mirrors-past st (a .seen) n len later (a .mirrors);
-        sound =
-            record {
-              end-in = a .sound .end-in;
-              points-in = λ le. points-past own few s end st ne h (a .sound .points-in) n len refl (subst (λ (k : ℕ). 3 ≤ k) (past-previous st n len) le);
-              few = few-past st n len long (a .sound .few);
-            };
+        few = few-past st n len long (a .few);
         kept = kept-past st (a .seen) n want chosen (a .mirrors) (a .kept);
       }
 
@@ -253,7 +226,7 @@ module _ (own : FormatChecks) (few : Few own) (s : List ℕ) (end want : ℕ) (s
   go-done zero e d =
       let inside = a .inside in
       let enough = a .enough in
-      let end-in = a .sound .end-in in
+      let end-in = a .end-in in
       absurd (omega arith)
   go-done (suc f) e d =
       a .same
@@ -265,7 +238,7 @@ module _ (own : FormatChecks) (few : Few own) (s : List ℕ) (end want : ℕ) (s
   go-refused zero r e d =
       let inside = a .inside in
       let enough = a .enough in
-      let end-in = a .sound .end-in in
+      let end-in = a .end-in in
       absurd (omega arith)
   go-refused (suc f) r e d =
       a .same
@@ -315,7 +288,9 @@ along-start own s end want h k =
       enough = omega arith;
       later = omega arith;
       inside = h;
+      end-in = omega arith;
+      passed = first;
       mirrors = mirrors-start start refl refl refl refl refl refl;
-      sound = record { end-in = omega arith; points-in = λ le. absurd (omega arith); few = omega arith };
+      few = omega arith;
       kept = refl;
     }

@@ -1,3 +1,3 @@
 pub mod Stepping
 pub mod Along
-pub mod Few
+pub mod Ready

@@ -1,15 +1,20 @@
 -- The walk's own state, for the contracts of its functions. No part of what a reader must believe: `walk` promises `verdict`.
 use Prim.Native.Nat.{ℕ, _+_, _≤_}
+use mathlib.Core.Path.{_≡_}
 use mathlib.Core.List.{List}
 use mathlib.Core.Bool.{cond}
 use lib.ListN.{length}
 use lib.Dec.{eqb}
 use Rattle.rules.specs.Fields.{lengthAt, numberAt, pointsAt}
+use Rattle.base_format.specs.Fields.{greatestAt}
+use Rattle.sections.specs.declared.Context.{Context}
 use Rattle.sections.specs.Checks.{FormatChecks, checksAt}
 use Rattle.sections.specs.Verdict.{firstFault}
 use Rattle.walks.specs.Places.{firstIn, contextIn}
 use Rattle.sections.specs.declared.Cut.{Cut}
 use Rattle.walks.specs.declared.State.{State}
+use Rattle.walks.specs.declared.ReadAs.{ReadAs}
+use Rattle.walks.specs.declared.ReadAs.the-variants.{RunLength, DualPolarisation, AnyData}
 use Rattle.sections.specs.declared.Judged.{Judged}
 use Rattle.sections.specs.declared.Judged.the-variants as J
 use Rattle.walks.specs.declared.Walked.{Walked}
@@ -39,10 +44,16 @@ cutEnded st = record { section3 = st .section3; section4 = st .section4; section
 abbrev pub chosenAfter : ℕ → State → ℕ → Cut → Cut
 chosenAfter want st n chosen = cond (eqb n 7) (cond (eqb (st .cuts) want) (cutEnded st) chosen) chosen
 
--- the end lies in the file; past a section 3 there are no more bins than run reading takes; the count of cuts stays small
-pub record Sound (s : List ℕ) (end : ℕ) (st : State) : Type 0 where
+-- what the checks of a section 7 go by, of the sections before it: there are no more bins than run reading takes, and V is one that it reads under
+abbrev pub Ready : ReadAs → List ℕ → Context → Type 0
+Ready RunLength s x = (pointsAt s (x .section3) ≤ 2097152) × (greatestAt s (x .section5) ≤ 252)
+Ready DualPolarisation s x = pointsAt s (x .section3) ≤ 2097152
+Ready AnyData s x = Unit {0}
+
+-- the end lies in the file; before a section 7 all is ready for it; the count of cuts stays small
+pub record Sound (format : ReadAs) (s : List ℕ) (end : ℕ) (st : State) : Type 0 where
   pub end-in : end ≤ length s
-  pub points-in : 3 ≤ st .previous → pointsAt s (st .section3) ≤ 2097152
+  pub ready : st .previous ≡ 6 → Ready format s (contextIn st)
   pub few : st .cuts ≤ st .at
 
 abbrev pub stepFrom : List ℕ → ℕ → State → Judged → Step

@@ -10,7 +10,7 @@ ghost use mathlib.Core.Path.{_≡_};
 ghost use mathlib.Core.List.{[]};
 ghost use Prim.Native.Nat.{_+_, _^_, _≤_, _<_};
 ghost use lib.ListN.{length};
-ghost use Rattle.rules.specs.Fields.{lengthAt, pointsAt};
+ghost use Rattle.rules.specs.Fields.{lengthAt};
 ghost use Rattle.sections.specs.Checks.{sectionChecks, checksAt};
 ghost use Rattle.sections.specs.Verdict.{firstFault, sections, verdictBy};
 ghost use Rattle.base_format.specs.Verdict.{verdict, anyDataVerdict};
@@ -18,7 +18,7 @@ ghost use Rattle.dual_format.specs.Verdict.{verdict as dualVerdict};
 ghost use Rattle.walks.specs.Formats.{ownOf};
 ghost use Rattle.walks.specs.Answer.{answerFor};
 ghost use Rattle.walks.specs.Places.{firstIn, contextIn};
-ghost use Rattle.walks.specs.Walk.{past, cutEnded, chosenAfter, Sound, stepOf, endedAs};
+ghost use Rattle.walks.specs.Walk.{past, cutEnded, chosenAfter, Ready, Sound, stepOf, endedAs};
 
 // An accepted file: how many cuts it has, and the one that was asked for.
 pub struct Found {
@@ -66,13 +66,13 @@ struct Ended {
 // The checks of a section 7.
 fn judge7(format: ReadAs, s: &[u8], x: Context, at: usize) -> Judged
     requires { ⌜ at + lengthAt (now s) at ≤ length (now s) ⌝ }
-    requires { ⌜ pointsAt (now s) (x .section3) ≤ 2097152 ⌝ }
+    requires { ⌜ Ready format (now s) x ⌝ }
     ensures { λ r. ⌜ r ≡ firstFault (ownOf format (now (s .entry)) x at 7) ⌝ }
 {
     match format {
         ReadAs::RunLength => base_format::judge7(s, x, at),
         ReadAs::DualPolarisation => dual_format::judge7(s, x, at),
-        ReadAs::AnyData => base_format::judge_any7(s, x, at),
+        ReadAs::AnyData => base_format::judge_any7(s, at),
     }
 }
 
@@ -127,7 +127,7 @@ fn context_in(st: State) -> Context
 // All the checks at the cursor, in order: 3, 9, then the section's own. No cut begins with a section 7, so 9 is not asked there and it goes straight
 // to its checks: the compiler then makes a better loop of the scan, where nearly all the time goes.
 fn judge_here(format: ReadAs, s: &[u8], end: usize, x: Context, at: usize) -> Judged
-    requires { ⌜ (end ≤ length (now s)) × (3 ≤ x .previous → pointsAt (now s) (x .section3) ≤ 2097152) ⌝ }
+    requires { ⌜ (end ≤ length (now s)) × (x .previous ≡ 6 → Ready format (now s) x) ⌝ }
     ensures { λ r. ⌜ r ≡ firstFault (checksAt (ownOf format) (now (s .entry)) end x at) ⌝ }
 {
     if at == end {
@@ -176,7 +176,7 @@ fn passed(st: State, n: u8, len: usize) -> State
 
 // One step of the walk: the checks at the cursor, and past the section where they hold.
 fn one_step(format: ReadAs, s: &[u8], end: usize, st: State) -> Step
-    requires { ⌜ Sound (now s) end st ⌝ }
+    requires { ⌜ Sound format (now s) end st ⌝ }
     ensures { λ r. ⌜ r ≡ stepOf (ownOf format) (now (s .entry)) end st ⌝ }
 {
     let at = st.at;

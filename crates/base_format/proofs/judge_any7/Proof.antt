@@ -4,9 +4,8 @@ use Rattle.base_format.proofs.judge_any7.Statement.{statement}
 use Rattle.base_format.proofs.judge_any7.Tie as tie
 
 returns : tie.Need-returns
-returns c = rw (c .check2 .ensures, c .before .check .ensures, c .before .before .accepted .ensures, c .before .before .before .greatest-at .ensures, c .before .before .before .before .length-at .ensures)
+returns c = rw (c .check .ensures, c .before .accepted .ensures, c .before .before .length-at .ensures)
 
 pub judge-any7-spec : {M : Type 1} → statement M
 judge-any7-spec =
-    tie.close (tie.spec (λ c κs. search needs) (λ c κs. search needs) (λ c κs. search needs)
-    (λ c κs. search needs) (λ c κs. search needs) returns)
+    tie.close (tie.spec (λ c κs. search needs) (λ c κs. search needs) (λ c κs. search needs) returns)

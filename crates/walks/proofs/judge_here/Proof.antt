@@ -1,12 +1,13 @@
 -- At the end the closing, else framing, then room for a cut, then the section itself, for which a 7 needs no room; framing gives what the parts of
 -- the file ask.
 use Rattle.sections.proofs.Framed.{framed-is}
-use Rattle.sections.proofs.Order.{past-three}
+use Rattle.sections.proofs.Order.{before-seven}
 use Rattle.sections.specs.Checks.{FormatChecks, framed, roomForCut, sectionChecks, checksAt}
 use Rattle.sections.specs.declared.Context.{Context}
 use Rattle.sections.specs.Verdict.{firstFault}
 use Rattle.walks.specs.Formats.{ownOf}
-use Rattle.rules.specs.Fields.{lengthAt, numberAt, pointsAt}
+use Rattle.rules.specs.Fields.{lengthAt, numberAt}
+use Rattle.walks.specs.Walk.{Ready}
 use Prim.Native.Nat.{ℕ, _+_, _≤_}
 use mathlib.Core.List.{List}
 use mathlib.Core.Bool.{true, and-false}
@@ -26,14 +27,14 @@ returns c = let a = c .before .before .before .before .before .args in rw (eq-eq
 -- what both ways to judge a section ask, from its framing
 asked : (c : tie.After-number-at) → let s = c .before .before .before .before .before in
     let at = s .args .at in
-    (at + lengthAt (now (s .args .s)) at ≤ length (now (s .args .s))) × (c .number-at .result ≡ 7 → pointsAt (now (s .args .s)) (s .args .x .section3) ≤ 2097152)
+    (at + lengthAt (now (s .args .s)) at ≤ length (now (s .args .s))) × (c .number-at .result ≡ 7 → Ready (s .args .format) (now (s .args .s)) (s .args .x))
 unfolding numberAt
 asked c = let s = c .before .before .before .before .before in
     let a = s .args in
     let fr = framed-is (now (a .s)) (a .end) (a .x) (a .at) (sym (c .before .before .is-framed .ensures) ∙ c .before .if2 .taken) in
     let reach = fr .reach in
     let inside = s .pre .0 in
-    (omega arith, λ (e : c .number-at .result ≡ 7). s .pre .1 (past-three (a .x .previous) _ (fr .allowed) (omega (arith, sym (c .number-at .ensures) ∙ e))))
+    (omega arith, λ (e : c .number-at .result ≡ 7). s .pre .1 (before-seven (a .x .previous) _ (fr .allowed) (sym (c .number-at .ensures) ∙ e)))
 
 judge7-requires : tie.Need-judge7-requires
 judge7-requires c κs = let w = asked (c .before) in

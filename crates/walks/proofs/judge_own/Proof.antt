@@ -4,12 +4,12 @@ use mathlib.Core.Path.{_≡_, refl, sym, _∙_}
 use mathlib.Core.Logic.{_⊎_, inl, inr, ⊎-elim}
 use mathlib.Core.List.{List}
 use native.Mathlib.Omega.{arith}
-use borrow.Author.Tests.{ne-eqb}
 use borrow.Author.Needs.{needs}
 use denote.Ref.{now}
 use denote.Enum.Declared.{tagOf}
 use Rattle.sections.specs.declared.Context.{Context}
-use Rattle.base_format.specs.Checks as L
+use Rattle.base_format.specs.Checks.{baseChecks}
+use Rattle.base_format.proofs.Held.{any-like}
 use Rattle.walks.specs.Formats.{ownOf}
 use Rattle.walks.specs.declared.ReadAs.{ReadAs}
 use Rattle.walks.specs.declared.ReadAs.the-variants.{RunLength, DualPolarisation, AnyData}
@@ -17,10 +17,9 @@ use Rattle.walks.proofs.ReadAs.{the-type}
 use Rattle.walks.proofs.judge_own.Statement.{statement}
 use Rattle.walks.proofs.judge_own.Tie as tie
 
-same-own : (f : ReadAs) → (tagOf the-type f ≡ 0) ⊎ (tagOf the-type f ≡ 2) → (s : List ℕ) (x : Context) (at n : ℕ) → (n ≡ 7 → ⊥) → L.baseChecks s x at n ≡ ownOf f s x at n
-unfolding L.anyDataChecks
+same-own : (f : ReadAs) → (tagOf the-type f ≡ 0) ⊎ (tagOf the-type f ≡ 2) → (s : List ℕ) (x : Context) (at n : ℕ) → (n ≡ 7 → ⊥) → baseChecks s x at n ≡ ownOf f s x at n
 same-own RunLength k s x at n other = refl
-same-own AnyData k s x at n other = rw (ne-eqb n 7 other)
+same-own AnyData k s x at n other = sym (any-like s x at n other)
 same-own DualPolarisation (inl e) s x at n other = absurd (omega (arith, e))
 same-own DualPolarisation (inr e) s x at n other = absurd (omega (arith, e))
 

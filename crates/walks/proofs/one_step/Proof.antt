@@ -17,7 +17,7 @@ use Rattle.walks.proofs.one_step.Statement.{statement}
 use Rattle.walks.proofs.one_step.Tie as tie
 
 judge-here-requires : tie.Need-judge-here-requires
-judge-here-requires c κs = rw (c .context-in .ensures) (let s : tie.Start = search in (s .pre .end-in, s .pre .points-in))
+judge-here-requires c κs = rw (c .context-in .ensures) (let s : tie.Start = search in (s .pre .end-in, s .pre .ready))
 
 -- what the checks came to, by the state
 judged : (c : tie.After-judge-here) → let s = c .before .before .before in
