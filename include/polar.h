@@ -198,7 +198,7 @@ uint64_t polar_run_write(const uint8_t *levels, size_t n, uint8_t *octets, size_
 
 /* ---- files: "Calls" ---- */
 
-/* No call from here on returns POLAR_V: section 5 is judged before data is looked at, and a V over 252 refused there. */
+/* No call from here on returns POLAR_V: section 5 is judged before data is looked at, and refused for a V over 252. */
 
 /*
  * Open.

@@ -73,8 +73,8 @@ static void files(size_t size, uint64_t argument, uint64_t room)
     REFUSES(polar_house_stretches(file, size, 0, 0, 0, lent.words, POLAR_ENTRY_WORDS - 1, lent.list), room);
 }
 
-/* V over 252, one that an octet does not hold among them: every call on the file refuses section 5 for it, which begins at
-   146, and none returns POLAR_V. A dual-polarisation call never comes so far. */
+/* V over 252, and over what an octet holds: every call on the file refuses section 5 for it, which begins at 146, and
+   none returns POLAR_V. The dual-polarisation calls do not come so far. */
 static void greatest_levels(void)
 {
     static const uint16_t over[] = {253, 254, 255, 256, 65535};

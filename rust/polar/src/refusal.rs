@@ -1,5 +1,5 @@
-//! Refusals by name: FORMAT.md, "Refusals". Calls on a file and run calls without one have a `Reason` each, with no case that
-//! they cannot answer; what a refusal is besides is said here, once.
+//! Refusals by name: FORMAT.md, "Refusals". Calls on a file and bare run calls have a `Reason` each, with no case that they cannot
+//! answer; what a refusal is besides is said here, once.
 use std::error::Error;
 use std::fmt;
 
@@ -173,7 +173,7 @@ mod tests {
     }
 
     #[test]
-    fn of_run_calls() {
+    fn of_bare_run_calls() {
         have_the_numbers::<runs::Reason>(&[8, 10, 11, 12]);
     }
 
@@ -184,7 +184,7 @@ mod tests {
     }
 
     #[test]
-    fn a_run_call_refuses_by_12() {
+    fn a_bare_run_call_refuses_by_12() {
         let refusal = runs::Refusal::check(12).unwrap_err();
         assert_eq!((refusal.reason(), refusal.number(), refusal.place()), (runs::Reason::V, 12, 0));
         assert_eq!(refusal.to_string(), "refused 12 at 0: the greatest level of packed data is over 253");

@@ -1,11 +1,9 @@
-//! Run-length packed levels, without a file.
-//!
-//! These calls are lent no file, and refuse by reasons of their own.
+//! Run-length packed levels, without a file: the bare run calls, which refuse by reasons of their own.
 use crate::refusal::{self, reasons};
 use crate::Reason as OfFile;
 
 reasons! {
-    /// Why a run call was refused: one case for each number that such a call can answer. Those that a call on a file can answer
+    /// Why a bare run call was refused: one case for each number that such a call can answer. Those that a call on a file can answer
     /// too have its number and its meaning.
     pub enum Reason {
         /// 8: the octets open above V, or do not give exactly the levels wanted.
@@ -14,12 +12,12 @@ reasons! {
         Argument = OfFile::Argument as isize => OfFile::Argument.meaning(),
         /// 11: lent room is too short.
         Room = OfFile::Room as isize => OfFile::Room.meaning(),
-        /// 12: V is over 253.
+        /// 12: V is over 253, in [`check`] and [`read`].
         V = 12 => "the greatest level of packed data is over 253",
     }
 }
 
-/// A refusal of a run call. No section is concerned: its place is 0.
+/// A refusal of a bare run call. No section is concerned: its place is 0.
 ///
 /// ```
 /// use polar::runs::{self, Reason};

@@ -1,4 +1,4 @@
-//! A `match` over the reasons of calls on a file, and one over those of run calls, as a caller writes them: neither has a wildcard, so
+//! A `match` over the reasons of calls on a file, and one over those of bare run calls, as a caller writes them: neither has a wildcard, so
 //! that this compiles only where no case is missing.
 use polar::{runs, Reason};
 
@@ -35,6 +35,6 @@ fn of_calls_on_a_file() {
 }
 
 #[test]
-fn of_run_calls() {
+fn of_bare_run_calls() {
     assert!(runs::Reason::ALL.iter().all(|reason| number_of_run(*reason) == reason.number()));
 }
