@@ -39,7 +39,7 @@ extern "C" {
 #define POLAR_VERSION_PATCH 0
 #define POLAR_VERSION "0.2.0"
 
-/* The refusals: "Refusals". */
+/* The refusals of calls on a file: "Refusals". The bare run calls return 8, 10 and 11 of these. */
 #define POLAR_FILE_SIZE 1u      /* the lent file is under 20 or over 8,388,608 octets */
 #define POLAR_SECTION_0 2u      /* section 0 is not as it should be */
 #define POLAR_FRAME 3u          /* a section's length or number cannot stand here, or the end is wrong */
@@ -51,9 +51,11 @@ extern "C" {
 #define POLAR_CUT_COUNT 9u      /* a section 3 or 4 begins a 65th cut */
 #define POLAR_ARGUMENT 10u      /* an argument is outside its range */
 #define POLAR_ROOM 11u          /* the lent room is too short */
-#define POLAR_V 12u             /* V is over 253 */
 #define POLAR_RECORD 13u        /* a record does not fit the data, or the data ends before the ray does */
 #define POLAR_UNREAD 14u        /* R infinite or not a number, a width other than 8 or 16, or a scan other than PPI */
+
+/* And that of polar_run_check and polar_run_read alone: no call on a file returns it. */
+#define POLAR_V 12u             /* V is over 253 */
 
 /* What a call returned: the number of its refusal, 0 where there is none, and the refusal's place in the file. */
 #define POLAR_NUMBER(returned) ((uint32_t)((uint64_t)(returned) & 255u))
@@ -174,13 +176,14 @@ enum { POLAR_LIST_COUNT, POLAR_LIST_NEXT_RAY, POLAR_LIST_NEXT_BIN, POLAR_LIST_WO
 
 /*
  * Run check: what polar_run_read would find in `octets` under V for n levels, with nothing lent.
- * Refusals, in this order: 12; 10 where n is over POLAR_MOST_LEVELS; 8.
+ * Refusals, in this order: 12 where v is over POLAR_MOST_V; 10 where n is over POLAR_MOST_LEVELS; 8.
  */
 uint64_t polar_run_check(const uint8_t *octets, size_t octets_len, uint64_t v, size_t n);
 
 /*
  * Run read: writes n levels at the front of `levels`, which has room for `room`.
- * Refusals, in this order: 12; 10 where n is over POLAR_MOST_LEVELS; 11 where room is under n; 8.
+ * Refusals, in this order: 12 where v is over POLAR_MOST_V; 10 where n is over POLAR_MOST_LEVELS; 11 where room is
+ * under n; 8.
  */
 uint64_t polar_run_read(const uint8_t *octets, size_t octets_len, uint64_t v, size_t n, uint8_t *levels, size_t room);
 
@@ -194,6 +197,8 @@ uint64_t polar_run_read(const uint8_t *octets, size_t octets_len, uint64_t v, si
 uint64_t polar_run_write(const uint8_t *levels, size_t n, uint8_t *octets, size_t room, uint64_t answer[2]);
 
 /* ---- files: "Calls" ---- */
+
+/* No call from here on returns POLAR_V: section 5 is judged before data is looked at, and refused for a V over 252. */
 
 /*
  * Open.

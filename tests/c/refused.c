@@ -73,6 +73,28 @@ static void files(size_t size, uint64_t argument, uint64_t room)
     REFUSES(polar_house_stretches(file, size, 0, 0, 0, lent.words, POLAR_ENTRY_WORDS - 1, lent.list), room);
 }
 
+/* V over 252, and over what an octet holds: every call on the file refuses section 5 for it, which begins at 146, and
+   none returns POLAR_V. The dual-polarisation calls do not come so far. */
+static void greatest_levels(void)
+{
+    static const uint16_t over[] = {253, 254, 255, 256, 65535};
+    const uint64_t field = REFUSED(POLAR_FIELD, 146), length = REFUSED(POLAR_SECTION_LENGTH, 37);
+    uint8_t *v = file + 146 + 12;
+    const uint8_t kept[] = {v[0], v[1]};
+    size_t i;
+
+    for (i = 0; i < sizeof over / sizeof *over; i++) {
+        v[0] = (uint8_t)(over[i] >> 8);
+        v[1] = (uint8_t)(over[i] & 255);
+        files(len, field, field);
+        REFUSES(polar_open(file, len, lent.opened), field);
+        REFUSES(polar_dual_open(file, len, lent.opened), length);
+        REFUSES(polar_dual_cut(file, len, 0, lent.dual_cut), length);
+        REFUSES(polar_dual_bin_value(file, len, 0, 0, 0, &lent.value, lent.bin), length);
+    }
+    memcpy(v, kept, sizeof kept);
+}
+
 int main(int argc, char **argv)
 {
     if (argc < 3 || !read_sample(2, argv + 1))
@@ -86,6 +108,7 @@ int main(int argc, char **argv)
     files(len, POLAR_ARGUMENT, POLAR_ROOM);
     files(len - 1, POLAR_SECTION_0, POLAR_SECTION_0);
     REFUSES(polar_open(file, len - 1, lent.opened), POLAR_SECTION_0);
+    greatest_levels();
     /* the month of section 1, which begins at 16: a refusal with a place */
     file[16 + 14] = 13;
     files(len, REFUSED(POLAR_FIELD, 16), REFUSED(POLAR_FIELD, 16));

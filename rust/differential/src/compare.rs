@@ -5,7 +5,7 @@ use polar_sys::RayRecord;
 use reference::index::Record;
 use reference::layout::{unchecked, verdict, Accepted, Unchecked};
 use reference::runs::{self, Written};
-use reference::stretches::{list, portion, Entry, Portion, HOUSE_THRESHOLD};
+use reference::stretches::{list, portion, Entry, Portion, ENTRY_WORDS, HOUSE_THRESHOLD};
 use reference::Refusal;
 use std::cell::OnceCell;
 
@@ -211,5 +211,31 @@ impl<'a> Compared<'a> {
             (point, count) = (portion.next, count + portion.count);
         }
         assert_eq!(count, entries.len());
+    }
+    /// Every call on every cut and on one that is not there: the corners of its grid and what lies past its edges, in rooms just right
+    /// and too short, by records at the front of its data and outside.
+    pub fn every_call(&self) {
+        let _ = self.open();
+        let cuts = self.unchecked().as_ref().map_or(&[][..], |file| &file.cuts);
+        for cut in 0..=cuts.len() {
+            let (bins, rays) = cuts.get(cut).map_or((1, 1), |cut| (cut.grid.bins, cut.grid.rays));
+            self.cut(cut);
+            self.build_index(cut, rays);
+            self.build_index(cut, rays - 1);
+            for (ray, bin) in [(0, 0), (rays - 1, bins - 1), (rays, 0), (0, bins)] {
+                self.bin_value(cut, ray, bin);
+                for room in [ENTRY_WORDS, ENTRY_WORDS - 1] {
+                    self.stretches(cut, HOUSE_THRESHOLD, (ray, bin), room);
+                }
+                for room in [bins, bins - 1] {
+                    self.ray_levels(cut, ray, room);
+                    self.ray_values(cut, ray, bins, room);
+                    for (offset, before) in [(0, 0), (0, 1), (1, 0), (u32::MAX, 0)] {
+                        let _ = self.ray_levels_from(cut, ray, Record { offset, before }, room);
+                        self.ray_values_from(cut, ray, Record { offset, before }, bins, room);
+                    }
+                }
+            }
+        }
     }
 }

@@ -208,14 +208,7 @@ fn each_format_under_the_others_calls() {
             spoil(&mut dual, &mut n);
         }
         Compared::new(&base).every_call();
-        let compared = compare::Compared::new(&dual);
-        let _ = compared.open();
-        let (cut, ray, bin, room) = (n.below(2), n.below(3), n.below(3), n.below(9));
-        compared.cut(cut);
-        compared.ray_levels(cut, ray, room);
-        compared.ray_values(cut, ray, room, room);
-        compared.bin_value(cut, ray, bin);
-        compared.stretches(cut, 4000, (ray, bin), room);
+        compare::Compared::new(&dual).every_call();
     }
 }
 

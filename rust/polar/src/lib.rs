@@ -50,5 +50,8 @@ pub use grid::Grid;
 pub use hundredths::{Hundredths, NoThreshold, Threshold};
 pub use index::RayRecord;
 pub use indexed::Indexed;
-pub use refusal::{Reason, Refusal};
+pub use refusal::Reason;
 pub use stretches::{Kind, Stretch, Stretches};
+
+/// A refusal of a call on a file, of either format: why, and where in the file.
+pub type Refusal = refusal::Refusal<Reason>;

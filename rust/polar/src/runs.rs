@@ -1,5 +1,31 @@
-//! Run-length packed levels, without a file.
-use crate::Refusal;
+//! Run-length packed levels, without a file: the bare run calls, which refuse by reasons of their own.
+use crate::refusal::{self, reasons};
+use crate::Reason as OfFile;
+
+reasons! {
+    /// Why a bare run call was refused: one case for each number that such a call can answer. Those that a call on a file can answer
+    /// too have its number and its meaning.
+    pub enum Reason {
+        /// 8: the octets open above V, or do not give exactly the levels wanted.
+        Data = OfFile::Data as isize => OfFile::Data.meaning(),
+        /// 10: over [`MOST_LEVELS`] levels are wanted or given, or a level is over 252.
+        Argument = OfFile::Argument as isize => OfFile::Argument.meaning(),
+        /// 11: lent room is too short.
+        Room = OfFile::Room as isize => OfFile::Room.meaning(),
+        /// 12: V is over 253, in [`check`] and [`read`].
+        V = 12 => "the greatest level of packed data is over 253",
+    }
+}
+
+/// A refusal of a bare run call. No section is concerned: its place is 0.
+///
+/// ```
+/// use polar::runs::{self, Reason};
+///
+/// let refusal = runs::check(&[3], 254, 1).unwrap_err();
+/// assert_eq!((refusal.reason(), refusal.number(), refusal.place()), (Reason::V, 12, 0));
+/// ```
+pub type Refusal = refusal::Refusal<Reason>;
 
 /// The most levels that are taken.
 pub const MOST_LEVELS: usize = 2_097_152;
@@ -27,7 +53,7 @@ pub fn check(octets: &[u8], v: u8, n: usize) -> Result<(), Refusal> {
 ///
 /// ```
 /// assert_eq!(polar::runs::read(&[7, 255, 255], 252, 9)?, [7; 9]);
-/// # Ok::<(), polar::Refusal>(())
+/// # Ok::<(), polar::runs::Refusal>(())
 /// ```
 pub fn read(octets: &[u8], v: u8, n: usize) -> Result<Vec<u8>, Refusal> {
     // where n is over the limit the call is refused before it looks at the room
@@ -42,7 +68,7 @@ pub fn read(octets: &[u8], v: u8, n: usize) -> Result<Vec<u8>, Refusal> {
 /// let packed = polar::runs::write(&[252; 10])?;
 /// assert_eq!((packed.v, &packed.octets[..]), (252, &[252, 253, 253, 254][..]));
 /// assert_eq!(polar::runs::read(&packed.octets, packed.v, 10)?, [252; 10]);
-/// # Ok::<(), polar::Refusal>(())
+/// # Ok::<(), polar::runs::Refusal>(())
 /// ```
 pub fn write(levels: &[u8]) -> Result<Packed, Refusal> {
     // octets are never more than the levels they stand for: a run of n bins takes at most n

@@ -2,7 +2,7 @@
 use polar::{runs, File, Kind, Reason, Threshold};
 use reference::maker::{CutPlan, Plan};
 use reference::published::Product;
-use std::collections::BTreeMap;
+use std::collections::{BTreeMap, BTreeSet};
 use std::fs;
 use std::path::Path;
 
@@ -40,15 +40,34 @@ fn sentences(header: &str) -> BTreeMap<String, String> {
         .collect()
 }
 
+/// Number, name and sentence of each reason.
+macro_rules! told {
+    ($reason:ty) => {
+        <$reason>::ALL.iter().map(|reason| (reason.number(), format!("{reason:?}"), reason.meaning())).collect::<Vec<_>>()
+    };
+}
+
+/// Those of calls on a file, and those of bare run calls.
+fn reasons() -> [Vec<(u32, String, &'static str)>; 2] {
+    [told!(Reason), told!(runs::Reason)]
+}
+
+/// The header lists the refusals of calls on a file, and then those that bare run calls have besides.
 #[test]
 fn refusals() {
-    let (header, names) = (header(), Reason::ALL.iter().map(|reason| in_capitals(&format!("{reason:?}"))));
-    let (numbers, sentences) = (numbers(&header), sentences(&header));
-    assert_eq!(sentences.len(), Reason::ALL.len());
-    for (reason, name) in Reason::ALL.iter().zip(names) {
-        assert_eq!(numbers.get(&name), Some(&i64::from(reason.number())), "{name}");
-        assert_eq!(sentences.get(&name).map(String::as_str), Some(reason.meaning()), "{name}");
+    let header = header();
+    let list = header.split("/* The refusals").nth(1).and_then(|rest| rest.split("/* What a call returned").next()).expect("the refusals");
+    let (of_files, of_runs) = list.split_once("alone: no call on a file returns").expect("those of bare run calls alone");
+    let mut sentences = sentences(&header);
+    let [files, mut runs] = reasons();
+    runs.retain(|reason| !files.contains(reason));
+    for (listed, reasons) in [(of_files, files), (of_runs, runs)] {
+        assert_eq!(numbers(listed), reasons.iter().map(|(number, name, _)| (in_capitals(name), i64::from(*number))).collect());
+        for (_, name, meaning) in reasons {
+            assert_eq!(sentences.remove(&in_capitals(&name)).as_deref(), Some(meaning), "{name}");
+        }
     }
+    assert!(sentences.is_empty(), "{sentences:?}");
 }
 
 /// The rows of a table of refusals: number and name.
@@ -62,13 +81,14 @@ fn rows(page: &str) -> Vec<(u32, String)> {
 
 #[test]
 fn refusals_of_the_pages() {
-    let names: Vec<(u32, String)> = Reason::ALL.iter().map(|reason| (reason.number(), format!("{reason:?}"))).collect();
+    let [files, runs] = reasons().map(|reasons| reasons.into_iter().map(|(number, name, _)| (number, name)).collect::<BTreeSet<_>>());
+    let all = &files | &runs;
     let rules = include_str!("../../../docs/FORMAT.md").split("## Refusals").nth(1).expect("the refusals");
-    assert_eq!(rows(rules.split("\n## ").next().expect("their end")), names);
-    let mut cases = rows(include_str!("../../../docs/REFUSALS.md"));
-    cases.sort();
-    cases.dedup();
-    assert_eq!(cases, names);
+    assert_eq!(rows(rules.split("\n## ").next().expect("their end")), Vec::from_iter(all.clone()));
+    let cases = include_str!("../../../docs/REFUSALS.md");
+    assert_eq!(BTreeSet::from_iter(rows(cases)), all);
+    let of_runs = cases.split("## Bare run calls").nth(1).expect("the bare run calls");
+    assert_eq!(BTreeSet::from_iter(rows(of_runs)), runs);
 }
 
 #[test]
@@ -101,9 +121,9 @@ fn limits_are_the_librarys() {
     assert_eq!([bins, bins + 1].map(|bins| opened(vec![blind(bins, 1)])), [None, Some(Reason::Field)]);
     assert_eq!([rays, rays + 1].map(|rays| opened(vec![blind(1, rays)])), [None, Some(Reason::Field)]);
     let v = numbers["MOST_V"] as u8;
-    assert_eq!([v, v + 1].map(|v| runs::check(&[0], v, 1).err().map(|r| r.reason())), [None, Some(Reason::V)]);
+    assert_eq!([v, v + 1].map(|v| runs::check(&[0], v, 1).err().map(|r| r.reason())), [None, Some(runs::Reason::V)]);
     let level = numbers["MOST_LEVEL"] as u8;
-    assert_eq!([level, level + 1].map(|level| runs::write(&[level]).err().map(|r| r.reason())), [None, Some(Reason::Argument)]);
+    assert_eq!([level, level + 1].map(|level| runs::write(&[level]).err().map(|r| r.reason())), [None, Some(runs::Reason::Argument)]);
 }
 
 #[test]

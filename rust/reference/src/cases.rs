@@ -202,9 +202,6 @@ impl Cases {
                 }
             }
             self.change("minus zero in the table", &sound, 5, Some(7), |s| s.put(18, 2, MINUS16));
-            for v in [m + 1, 256, ONES16] {
-                self.change(format!("V is {v}"), &sound, 5, Some(5), |s| s.put(13, 2, v));
-            }
             for other in [m - 1, m + 1] {
                 self.change(format!("M is {other}, as the length"), &sound, 5, Some(5), |s| {
                     s.resize(17 + 2 * other as usize);
@@ -220,6 +217,32 @@ impl Cases {
                 cut.data = vec![v as u8 + 1];
                 let sound = Plan::new(product, vec![cut]).sections();
                 self.change(format!("V is {v} and the data opens above it"), &sound, 7, Some(8), |_| ());
+            }
+        }
+    }
+
+    /// V about the greatest in the first cut, and in a later one whose section 5 says another V than the first's. The data of that cut
+    /// gives its bins under every V, or under none.
+    fn greatest_levels(&mut self) {
+        let sound = CutPlan::of_levels(3, 2, &[9, 9, 1, 0, 0, 3]);
+        for product in Product::BOTH {
+            let m = product.levels();
+            for v in about_the_greatest(product) {
+                // one octet for each bin; a bin too few, one too many, and octets that are digits under all V but 255
+                for (data, gives) in [(vec![0; 6], true), (vec![0; 5], false), (vec![0; 7], false), (vec![255; 5], false)] {
+                    for (cut, own_grid, section_5) in [(0, true, 3), (1, false, 7), (1, true, 8)] {
+                        let name = format!("{product:?}, V of cut {cut} is {v}, data {data:?}");
+                        let mut cuts = vec![sound.clone(); 2];
+                        cuts[1].own_grid = own_grid;
+                        (cuts[cut].v, cuts[cut].data) = (v, data.clone());
+                        let refusal = match (v <= m, gives) {
+                            (true, true) => None,
+                            (true, false) => Some((8, section_5 + 2)),
+                            (false, _) => Some((5, section_5)),
+                        };
+                        self.sections(name, &Plan::new(product, cuts).sections(), refusal);
+                    }
+                }
             }
         }
     }
@@ -373,6 +396,19 @@ impl Cases {
     }
 }
 
+/// V at M, the greatest that section 5 may say, past it, and past what an octet holds.
+pub fn about_the_greatest(product: Product) -> [u16; 8] {
+    let m = product.levels();
+    [m, m + 1, 252, 253, 254, 255, 256, u16::MAX]
+}
+
+/// Those of [`all`] where section 5 says such a V.
+pub fn greatest_levels() -> Vec<Case> {
+    let mut cases = Cases::default();
+    cases.greatest_levels();
+    cases.0
+}
+
 /// Every case.
 pub fn all() -> Vec<Case> {
     let of_levels = |product, bins, rays, levels: &[u8]| Plan::new(product, vec![CutPlan::of_levels(bins, rays, levels)]).sections();
@@ -386,6 +422,7 @@ pub fn all() -> Vec<Case> {
     cases.lengths_that_do_not_fit(&small);
     cases.points();
     cases.values();
+    cases.greatest_levels();
     cases.later_cuts();
     cases.orders(&two_bins);
     cases.order_of_checks();

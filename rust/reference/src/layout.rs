@@ -118,13 +118,11 @@ fn data<'a>(s: &Section<'a>) -> Result<&'a [u8], Refusal> {
     Ok(&s.octets[5..])
 }
 
-/// The data; what run reading answers is passed on.
+/// The data, which gives exactly the grid's bins under V.
 fn section_7<'a>(s: &Section<'a>, grid: &Grid, v: u8) -> Result<&'a [u8], Refusal> {
     let data = data(s)?;
-    match runs::run_check(data, v, grid.bins * grid.rays) {
-        Ok(()) => Ok(data),
-        Err(refusal) => refused_at(refusal.number, s.place),
-    }
+    s.check(8, runs::exactly(data, v, grid.bins * grid.rays).is_some())?;
+    Ok(data)
 }
 
 /// What was last seen of sections 3, 4 and 5, and product and site of the first cut.

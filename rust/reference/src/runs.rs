@@ -1,4 +1,4 @@
-//! "Run-length rule", and the two bare run calls.
+//! "Run-length rule", and the bare run calls, which alone test their arguments for 12.
 use crate::{refused, Refusal};
 use std::iter;
 
@@ -44,22 +44,20 @@ pub fn runs(octets: &[u8], v: u8) -> Option<Vec<Run>> {
     each_run(octets, v).map(Iterator::collect)
 }
 
-/// The runs of octets that write exactly n levels under V, or refusal 8.
-fn exactly(octets: &[u8], v: u8, n: usize) -> Result<Vec<Run>, Refusal> {
+/// The runs of octets that write exactly n levels under V; none where they open above V, or write more or fewer.
+pub(crate) fn exactly(octets: &[u8], v: u8, n: usize) -> Option<Vec<Run>> {
     let bins = |runs: &Vec<Run>| runs.iter().fold(0, |sum: u128, run| sum.saturating_add(run.length));
-    match runs(octets, v) {
-        Some(runs) if bins(&runs) == n as u128 => Ok(runs),
-        _ => refused(8),
-    }
+    runs(octets, v).filter(|runs| bins(runs) == n as u128)
 }
 
-/// The n levels that octets write under V, or refusal 8.
-pub fn decode(octets: &[u8], v: u8, n: usize) -> Result<Vec<u8>, Refusal> {
+/// The n levels that octets write under V, where they write exactly these.
+pub(crate) fn decode(octets: &[u8], v: u8, n: usize) -> Option<Vec<u8>> {
     let runs = exactly(octets, v, n)?;
-    Ok(runs.iter().flat_map(|run| iter::repeat_n(run.level, run.length as usize)).collect())
+    Some(runs.iter().flat_map(|run| iter::repeat_n(run.level, run.length as usize)).collect())
 }
 
-/// Refusals 12 and 10 of run read.
+/// 12 and 10, by the arguments of run check and run read. A file has no such arguments: section 5 has held its V to M, and
+/// section 3 its bins.
 fn arguments(v: u8, n: usize) -> Result<(), Refusal> {
     if v > 253 {
         return refused(12);
@@ -70,10 +68,15 @@ fn arguments(v: u8, n: usize) -> Result<(), Refusal> {
     Ok(())
 }
 
-/// What run read finds in octets, with no buffer lent.
+/// 8 where octets do not write what is wanted.
+fn wanted<T>(found: Option<T>) -> Result<T, Refusal> {
+    found.map_or_else(|| refused(8), Ok)
+}
+
+/// Run check: what run read finds in octets, with no buffer lent.
 pub fn run_check(octets: &[u8], v: u8, n: usize) -> Result<(), Refusal> {
     arguments(v, n)?;
-    exactly(octets, v, n).map(|_| ())
+    wanted(exactly(octets, v, n)).map(|_| ())
 }
 
 /// Run read: n levels at the front of a lent buffer.
@@ -82,7 +85,7 @@ pub fn run_read(octets: &[u8], v: u8, n: usize, levels: &mut [u8]) -> Result<(),
     if levels.len() < n {
         return refused(11);
     }
-    levels[..n].copy_from_slice(&decode(octets, v, n)?);
+    levels[..n].copy_from_slice(&wanted(decode(octets, v, n))?);
     Ok(())
 }
 

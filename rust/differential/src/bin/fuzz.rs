@@ -3,6 +3,7 @@
 //! octet that differs, and names the round that it came in.
 use differential::compare::{run_check, run_read, run_write, Compared};
 use differential::dual;
+use reference::cases::about_the_greatest;
 use reference::dual::shapes as dual_shapes;
 use reference::index::shapes::{random_record, random_unchecked_plan};
 use reference::index::Record;
@@ -78,7 +79,7 @@ fn runs(n: &mut Numbers) {
 }
 
 fn file(n: &mut Numbers) -> Vec<u8> {
-    let plan = match n.below(40) {
+    let mut plan = match n.below(40) {
         0 => {
             let (bins, rays, product) = (n.within(1, 2048), n.within(1, 200), n.one_of(&Product::BOTH));
             Plan::new(product, vec![random_cut(bins, rays, product, n)])
@@ -94,6 +95,10 @@ fn file(n: &mut Numbers) -> Vec<u8> {
             random_plan(4, bins, rays, n)
         }
     };
+    if n.once_in(10) {
+        let cut = n.below(plan.cuts.len());
+        plan.cuts[cut].v = n.one_of(&about_the_greatest(plan.product));
+    }
     spoiled_or_sound(&plan.sections(), n)
 }
 
