@@ -35,9 +35,9 @@ extern "C" {
 #endif
 
 #define POLAR_VERSION_MAJOR 0
-#define POLAR_VERSION_MINOR 2
+#define POLAR_VERSION_MINOR 3
 #define POLAR_VERSION_PATCH 0
-#define POLAR_VERSION "0.2.0"
+#define POLAR_VERSION "0.3.0"
 
 /* The refusals of calls on a file: "Refusals". The bare run calls return 8, 10 and 11 of these. */
 #define POLAR_FILE_SIZE 1u      /* the lent file is under 20 or over 8,388,608 octets */

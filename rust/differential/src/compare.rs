@@ -212,6 +212,7 @@ impl<'a> Compared<'a> {
         }
         assert_eq!(count, entries.len());
     }
+
     /// Every call on every cut and on one that is not there: the corners of its grid and what lies past its edges, in rooms just right
     /// and too short, by records at the front of its data and outside.
     pub fn every_call(&self) {

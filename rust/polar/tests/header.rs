@@ -82,13 +82,11 @@ fn rows(page: &str) -> Vec<(u32, String)> {
 #[test]
 fn refusals_of_the_pages() {
     let [files, runs] = reasons().map(|reasons| reasons.into_iter().map(|(number, name, _)| (number, name)).collect::<BTreeSet<_>>());
-    let all = &files | &runs;
     let rules = include_str!("../../../docs/FORMAT.md").split("## Refusals").nth(1).expect("the refusals");
-    assert_eq!(rows(rules.split("\n## ").next().expect("their end")), Vec::from_iter(all.clone()));
+    assert_eq!(rows(rules.split("\n## ").next().expect("their end")), Vec::from_iter(&files | &runs));
     let cases = include_str!("../../../docs/REFUSALS.md");
-    assert_eq!(BTreeSet::from_iter(rows(cases)), all);
-    let of_runs = cases.split("## Bare run calls").nth(1).expect("the bare run calls");
-    assert_eq!(BTreeSet::from_iter(rows(of_runs)), runs);
+    let (of_files, of_runs) = cases.split_once("## Bare run calls").expect("the bare run calls");
+    assert_eq!([of_files, of_runs].map(|cases| BTreeSet::from_iter(rows(cases))), [files, runs]);
 }
 
 #[test]
