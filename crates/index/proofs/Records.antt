@@ -4,7 +4,7 @@ use mathlib.Core.Path.{_≡_, refl, sym, ap, subst, _∙_}
 use mathlib.Core.Bool.{Bool, true, false, cond}
 use mathlib.Core.List.{List, [], _∷_, _++_, append-assoc}
 use native.Mathlib.Omega.{arith}
-use native.Mathlib.Nat.{suc-mul, mul-le-mul}
+use native.Mathlib.Nat.{suc-mul, mul-le-mul, le-of-suc-le-suc}
 use lib.ListN.{length, take, drop, getD, set, replicate, length-append, length-drop, length-replicate}
 use lib.Seq.{drop-drop, drop-at, drop-cons, drop-nil, set-at}
 use lib.Dec.{leb, ltb}
@@ -33,14 +33,30 @@ module _ (v o : ℕ) (s : List ℕ) (at a : ℕ) where
   unfolding recordOf
   record-digit h = simp (lt-leb _ _ h)
 
+-- a run opens: its own bins and the rest
+open-size : (v o : ℕ) (t : List ℕ) → o ≤ v → length (levels v (o ∷ t)) ≡ 1 + digitSum v 0 t + length (levels v t)
+open-size v o t low =
+    let m : ℕ = 1 + digitSum v 0 t in
+    ap length (levels-open v o t low) ∙ length-append (replicate m o) (levels v t) ∙ ap (λ (n : ℕ). n + length (levels v t)) (length-replicate m o)
+
 -- octets from a place on give no more bins than all of them
 suffix : (v : ℕ) (t : List ℕ) (k : ℕ) → length (levels v (drop k t)) ≤ length (levels v t)
 suffix v [] k = omega (arith, ap (λ (l : List ℕ). length (levels v l)) (drop-nil k))
 suffix v (x ∷ t) zero = omega arith
 suffix v (x ∷ t) (suc k) =
     by-order x v
-    (λ low. omega (arith, suffix v t k, simp length-append at (ap length (levels-open v x t low))))
+    (λ low. omega (arith, suffix v t k, open-size v x t low))
     (λ high. omega (arith, suffix v t k, ap length (levels-digit v x t high)))
+
+one-on : (k : ℕ) → suc (k + 1) ≡ suc k + 1
+one-on k = omega arith
+
+-- past a run of m bins each count is less by m
+without : (m bins all rest : ℕ) → m + all ≡ bins + rest → rest ≤ all → (m ≤ bins) × (all ≡ bins - m + rest)
+without m bins all rest e h = (omega arith, omega arith)
+
+shifted : (a bins m run : ℕ) → m ≤ bins → bins ≤ a → a < bins + run → (m ≤ a) × (bins - m ≤ a - m) × (a - m < bins - m + run) × (a - m - (bins - m) ≡ a - bins)
+shifted a bins m run p q h = (omega arith, omega arith, omega arith, omega arith)
 
 -- ---- the record of a bin is the run that holds it: as many bins come before it as the octets from it on leave
 found : (v : ℕ) (t : List ℕ) (k at a bins : ℕ) → opens v (drop k t) ≡ true → k < length t → length (levels v t) ≡ bins + length (levels v (drop k t)) → bins ≤ a → a < bins + runLen v t k
@@ -52,21 +68,20 @@ found v (x ∷ t) zero at a bins o i e l h =
     let here : at ≡ at + 0 = omega arith in
     record-in v x t at a low (omega arith) ∙ (λ j. record { offset = here j; before = none j })
 found v (x ∷ t) (suc k) at a bins o i e l h =
-    let rest = suffix v t k in
     let place : at + 1 + k ≡ at + suc k = omega arith in
-    let shift : suc (k + 1) ≡ suc k + 1 = omega arith in
-    let same : runLen v t k ≡ runLen v (x ∷ t) (suc k) = ap (λ (n : ℕ). 1 + digitSum v 0 (drop n (x ∷ t))) shift in
+    let inside : k < length t = le-of-suc-le-suc i in
+    let same : runLen v t k ≡ runLen v (x ∷ t) (suc k) = ap (λ (n : ℕ). 1 + digitSum v 0 (drop n (x ∷ t))) (one-on k) in
+    let h' : a < bins + runLen v t k = subst (λ (r : ℕ). a < bins + r) (sym same) h in
     by-order x v
     (λ low.
     let m : ℕ = 1 + digitSum v 0 t in
-    let size : length (levels v (x ∷ t)) ≡ m + length (levels v t) = ap length (levels-open v x t low) ∙ length-append (replicate m x) (levels v t) ∙ ap (λ (n : ℕ). n + length (levels v t)) (length-replicate m x) in
-    let less : a - m - (bins - m) ≡ a - bins = omega arith in
-    record-past v x t at a low (omega arith)
-    ∙ found v t k (at + 1) (a - m) (bins - m) o (omega arith) (omega arith) (omega arith) (omega arith)
-    ∙ (λ j. record { offset = place j; before = less j }))
+    let w = without m bins (length (levels v t)) (length (levels v (drop k t))) (sym (open-size v x t low) ∙ e) (suffix v t k) in
+    let z = shifted a bins m (runLen v t k) (w .0) l h' in
+    record-past v x t at a low (z .0) ∙ found v t k (at + 1) (a - m) (bins - m) o inside (w .1) (z .1) (z .2) ∙ (λ j. record { offset = place j; before = z .3 j }))
     (λ high.
-    let size : length (levels v (x ∷ t)) ≡ length (levels v t) = ap length (levels-digit v x t high) in
-    record-digit v x t at a high ∙ found v t k (at + 1) a bins o (omega arith) (omega arith) l (omega arith) ∙ (λ j. record { offset = place j; before = a - bins }))
+    record-digit v x t at a high
+    ∙ found v t k (at + 1) a bins o inside (sym (ap length (levels-digit v x t high)) ∙ e) l h'
+    ∙ (λ j. record { offset = place j; before = a - bins }))
 
 pub record-held : (v : ℕ) (s : List ℕ) (at bins a : ℕ) → Stands v s at bins → bins ≤ a → a < bins + runLen v s at → a < length (levels v s) → recordOf v s 0 a ≡ record { offset = at; before = a - bins }
 record-held v s at bins a k l h some =
@@ -85,8 +100,7 @@ pub record Right (v : ℕ) (t : List ℕ) (at a : ℕ) (rec : RayRecord) : Type 
 
 right-on : (v o : ℕ) (t : List ℕ) (at a b : ℕ) (rec : RayRecord) → drop a (levels v (o ∷ t)) ≡ drop b (levels v t) → Right v t (at + 1) b rec → Right v (o ∷ t) at a rec
 right-on v o t at a b rec e r =
-    let shift : suc (r .k + 1) ≡ suc (r .k) + 1 = omega arith in
-    let same : runLen v t (r .k) ≡ runLen v (o ∷ t) (suc (r .k)) = ap (λ (n : ℕ). 1 + digitSum v 0 (drop n (o ∷ t))) shift in
+    let same : runLen v t (r .k) ≡ runLen v (o ∷ t) (suc (r .k)) = ap (λ (n : ℕ). 1 + digitSum v 0 (drop n (o ∷ t))) (one-on (r .k)) in
     record {
       k = suc (r .k);
       place = omega (arith, r .place);
@@ -96,25 +110,40 @@ right-on v o t at a b rec e r =
       rest = e ∙ r .rest;
     }
 
+-- past a run: what is left of the bins and of their number
+module _ (v o : ℕ) (t : List ℕ) (a : ℕ) (low : o ≤ v) (past : 1 + digitSum v 0 t ≤ a) where
+  abbrev run : ℕ
+  run = 1 + digitSum v 0 t
+
+  rest-past : drop a (levels v (o ∷ t)) ≡ drop (a - run) (levels v t)
+  rest-past =
+      let cut : a ≡ run + (a - run) = omega arith in
+      (λ i. drop (cut i) (levels-open v o t low i))
+      ∙ sym (drop-drop (a - run) run (replicate run o ++ levels v t))
+      ∙ ap (λ (x : List ℕ). drop (a - run) x) (drop-at (replicate run o) (levels v t) run (length-replicate run o))
+
+  fewer-past : a < length (levels v (o ∷ t)) → a - run < length (levels v t)
+  fewer-past h =
+      let h' : a < run + length (levels v t) = subst (λ (n : ℕ). a < n) (open-size v o t low) h in
+      omega arith
+
 pub record-right : (v : ℕ) (t : List ℕ) (at a : ℕ) → a < length (levels v t) → Right v t at a (recordOf v t at a)
 record-right v [] at a h = absurd (omega (arith, ap length (levels-nil v)))
 record-right v (o ∷ t) at a h =
     by-order o v
-    (λ l.
+    (λ low.
     let m : ℕ = 1 + digitSum v 0 t in
-    let row = levels-open v o t l in
-    let size = length-append (replicate m o) (levels v t) in
-    let run = length-replicate m o in
     by-order m a
     (λ past.
-    let cut : a ≡ m + (a - m) = omega arith in
-    let rest : drop a (levels v (o ∷ t)) ≡ drop (a - m) (levels v t) =
-    (λ i. drop (cut i) (row i)) ∙ sym (drop-drop (a - m) m (replicate m o ++ levels v t)) ∙ ap (λ (x : List ℕ). drop (a - m) x) (drop-at (replicate m o) (levels v t) m run) in
-    rw (record-past v o t at a l past) (right-on v o t at a (a - m) (recordOf v t (at + 1) (a - m)) rest (record-right v t (at + 1) (a - m) (omega (arith, ap length row)))))
+    subst (Right v (o ∷ t) at a) (sym (record-past v o t at a low past))
+    (right-on v o t at a (a - m) (recordOf v t (at + 1) (a - m)) (rest-past v o t a low past) (record-right v t (at + 1) (a - m) (fewer-past v o t a low past h))))
     (λ short.
-    rw (record-in v o t at a l short) (record { k = 0; place = omega arith; inside = omega arith; low = l; short = short; rest = refl })))
-    (λ g.
-    rw (record-digit v o t at a g) (right-on v o t at a a (recordOf v t (at + 1) a) (ap (λ (x : List ℕ). drop a x) (levels-digit v o t g)) (record-right v t (at + 1) a (omega (arith, ap length (levels-digit v o t g))))))
+    subst (Right v (o ∷ t) at a) (sym (record-in v o t at a low short))
+    (record { k = 0; place = omega arith; inside = omega arith; low = low; short = short; rest = refl })))
+    (λ high.
+    let row = levels-digit v o t high in
+    subst (Right v (o ∷ t) at a) (sym (record-digit v o t at a high))
+    (right-on v o t at a a (recordOf v t (at + 1) a) (ap (λ (x : List ℕ). drop a x) row) (record-right v t (at + 1) a (subst (λ (n : ℕ). a < n) (ap length row) h))))
 
 module _ (v nb : ℕ) (s : List ℕ) (a : ℕ) (some : a < length (levels v s)) (reach : a + nb ≤ length (levels v s)) where
   abbrev made : RayRecord
