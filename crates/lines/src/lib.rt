@@ -46,6 +46,15 @@ fn put_named(out: &mut [u8], at: usize, name: &[u8], n: usize) -> usize
     put_decimal(out, a, n)
 }
 
+// The last number of a line, what stands before it, and the end of the line.
+fn put_last(out: &mut [u8], at: usize, name: &[u8], n: usize) -> usize
+    requires { ⌜ at + length (now name) + 21 ≤ length (now out) ⌝ }
+    ensures { λ r. ⌜ Put (now (out .entry)) at ((now (name .entry) ++ decimal n) ++ newline) (now (out .exit)) r ⌝ }
+{
+    let a = put_named(out, at, name, n);
+    lent::put_octets(out, a, b"\n")
+}
+
 // The number in a word of entries, and what stands before it.
 fn put_word(out: &mut [u8], at: usize, name: &[u8], words: &[u32], k: usize) -> usize
     requires { ⌜ (k < length (now words)) × (at + length (now name) + 20 ≤ length (now out)) ⌝ }
@@ -116,8 +125,7 @@ pub fn put_head(
     let b = put_named(out, a, b" product ", product);
     let c = put_named(out, b, b" bins ", bins);
     let d = put_named(out, c, b" rays ", rays);
-    let e = put_named(out, d, b" threshold ", t);
-    lent::put_octets(out, e, b"\n")
+    put_last(out, d, b" threshold ", t)
 }
 
 // The line of a refusal.
@@ -126,8 +134,7 @@ pub fn put_refused(out: &mut [u8], at: usize, number: usize, place: usize) -> us
     ensures { λ r. ⌜ Put (now (out .entry)) at (refusedLine number place) (now (out .exit)) r ⌝ }
 {
     let a = put_named(out, at, b"refused ", number);
-    let b = put_named(out, a, b" at ", place);
-    lent::put_octets(out, b, b"\n")
+    put_last(out, a, b" at ", place)
 }
 
 // The last line.
@@ -135,6 +142,5 @@ pub fn put_end(out: &mut [u8], at: usize, total: usize) -> usize
     requires { ⌜ at + lineRoom ≤ length (now out) ⌝ }
     ensures { λ r. ⌜ Put (now (out .entry)) at (endLine total) (now (out .exit)) r ⌝ }
 {
-    let a = put_named(out, at, b"end ", total);
-    lent::put_octets(out, a, b"\n")
+    put_last(out, at, b"end ", total)
 }

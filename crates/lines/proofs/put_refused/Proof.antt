@@ -7,11 +7,8 @@ use Rattle.lines.proofs.put_refused.Tie as tie
 
 returns : tie.Need-returns
 unfolding refusedLine
-returns c = let b = c .before .before .before .before .before .before .before in
-    let a = b .before .before .before .before .before in
-    then (a .put-named .ensures .0) (then (b .put-named2 .ensures .0) (c .before .before .put-octets .ensures))
+returns c = let a : tie.After-put-named = search in let b : tie.After-put-last = search in then (a .put-named .ensures .0) (b .put-last .ensures)
 
 pub put-refused-spec : {M : Type 1} → statement M
 put-refused-spec =
-    tie.close (tie.spec (search needs) (search needs) (search needs) (search needs) (search needs)
-    (search needs) (search needs) returns)
+    tie.close (tie.spec (search needs) (search needs) (search needs) (search needs) (search needs) returns)
