@@ -143,9 +143,16 @@ pointsAndTable = likeDocument 10 0 11 252 (0 ∷ 1 ∷ drop 2 reflectivityTable)
 abbrev pub lengthNotByM : List ℕ
 lengthNotByM = likeDocument 10 0 10 251 reflectivityTable tenBins
 
--- velocity, one ray of four bins of 39.50, 40.00, -40.00 m/s and no data; its section 5 has 519 octets
+-- velocity, one ray of four bins of 39.50, 40.00, -40.00 m/s and no data; its section 5 has 519 octets. With what may be spoiled: V
+abbrev pub likeWind : ℕ → List ℕ
+likeWind v = file 680 (three 4 4 1 35859722 0 ++ four 2 47695 130 1 ++ five 4 v 251 velocityTable ++ rest (158 ∷ 160 ∷ 161 ∷ 0 ∷ []))
+
 abbrev pub wind : List ℕ
-wind = file 680 (three 4 4 1 35859722 0 ++ four 2 47695 130 1 ++ five 4 251 251 velocityTable ++ rest (158 ∷ 160 ∷ 161 ∷ 0 ∷ []))
+wind = likeWind 251
+
+-- V is 252, which is over this product's M and is the other's
+abbrev pub greaterWindV : List ℕ
+greaterWindV = likeWind 252
 
 -- two cuts, each with a section 3 of its own: one ray of two bins at latitude -0.000005, of 5.60 dBZ and no data, its elevation missing; three rays of one bin at latitude
 -- 0.000007, of 39.84 dBZ, 40.16 dBZ and no data, its elevation -0.05. With what may be spoiled: the second cut's parameter, site and V
@@ -191,6 +198,7 @@ pub record Verdicts : Type 0 where
   pub parameter-compared : verdict otherParameter ≡ refused (refuse Field 717)
   pub site-compared : verdict otherSite ≡ refused (refuse Field 717)
   pub v-compared : verdict greaterV ≡ refused (refuse Field 789)
+  pub v-by-m : verdict greaterWindV ≡ refused (refuse Field 142)
 
 pub verdicts : Verdicts
 unfolding be same inOctets field meets meetsAll rules0 rules1 rules3 rules4 rules5 rules6 rules8 lengthAt numberAt binsAt raysAt pointsAt parameterAt siteAt greatestAt countAt levels digitSum gives levelCount reflectivity velocityEven velocity published valuesFrom tableOf signMagnitude octetsOf tableOctets tableRight refuse follows framed roomForCut sectionChecks closes checksAt lastSeen firstSeen cutsOf cutsSeen contextOf sections sized verdictBy productOf tableAt dataAt baseChecks anyDataChecks
@@ -209,4 +217,5 @@ verdicts =
       parameter-compared = refl;
       site-compared = refl;
       v-compared = refl;
+      v-by-m = refl;
     }

@@ -46,7 +46,7 @@ use Rattle.polar.specs.declared.CutAnswer.the-variants as C
 use Rattle.polar.specs.declared.Elevation.the-variants.{Missing, Hundredths}
 use Rattle.polar.specs.declared.StretchAnswer.{StretchAnswer}
 use Rattle.polar.specs.declared.StretchAnswer.the-variants as S
-use Rattle.demands.proofs.SampleFiles.{document, dataShort, longOne, longSix, fieldAndPoints, pointsAndTable, lengthNotByM, wind, twoCuts, otherParameter, otherSite, greaterV, verdicts}
+use Rattle.demands.proofs.SampleFiles.{document, dataShort, longOne, longSix, fieldAndPoints, pointsAndTable, lengthNotByM, wind, twoCuts, otherParameter, otherSite, greaterV, greaterWindV, verdicts}
 
 -- ── the file's own refusals ──
 
@@ -89,6 +89,10 @@ site-compared = open-by otherSite _ (verdicts .site-compared)
 -- V of a later cut's own section 5 not compared with M
 pub v-compared : (r : Opened) → OpenPromise greaterV r → r ≡ O.Refused (refuse Field 789)
 v-compared = open-by greaterV _ (verdicts .v-compared)
+
+-- V compared with 252, whatever the product
+pub v-by-m : (r : Opened) → OpenPromise greaterWindV r → r ≡ O.Refused (refuse Field 142)
+v-by-m = open-by greaterWindV _ (verdicts .v-by-m)
 
 -- ── open and cut ──
 
