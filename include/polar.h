@@ -35,9 +35,9 @@ extern "C" {
 #endif
 
 #define POLAR_VERSION_MAJOR 0
-#define POLAR_VERSION_MINOR 3
+#define POLAR_VERSION_MINOR 4
 #define POLAR_VERSION_PATCH 0
-#define POLAR_VERSION "0.3.0"
+#define POLAR_VERSION "0.4.0"
 
 /* The refusals of calls on a file: "Refusals". The bare run calls return 8, 10 and 11 of these. */
 #define POLAR_FILE_SIZE 1u      /* the lent file is under 20 or over 8,388,608 octets */
@@ -47,7 +47,7 @@ extern "C" {
 #define POLAR_FIELD 5u          /* a named field is outside its rule */
 #define POLAR_POINTS 6u         /* the point count in section 3 or 5 is not Nb x Nr */
 #define POLAR_TABLE 7u          /* the value table differs from the published one */
-#define POLAR_DATA 8u           /* data opens above V, or gives more or fewer bins than wanted */
+#define POLAR_DATA 8u           /* data opens above V, or gives more or fewer bins than wanted: at the octet at fault */
 #define POLAR_CUT_COUNT 9u      /* a section 3 or 4 begins a 65th cut */
 #define POLAR_ARGUMENT 10u      /* an argument is outside its range */
 #define POLAR_ROOM 11u          /* the lent room is too short */
@@ -57,7 +57,12 @@ extern "C" {
 /* And that of polar_run_check and polar_run_read alone: no call on a file returns it. */
 #define POLAR_V 12u             /* V is over 253 */
 
-/* What a call returned: the number of its refusal, 0 where there is none, and the refusal's place in the file. */
+/*
+ * What a call returned: the number of its refusal, 0 where there is none, and the refusal's place. That is where the
+ * section concerned starts, counted from 0 in the file, and 0 where no section is concerned. For POLAR_DATA it is the
+ * octet at fault, counted likewise: the first octet of the data if it is above V; the level or digit octet at which the
+ * bins are first passed; one past the data if there are too few, and there the next section or the file's end stands.
+ */
 #define POLAR_NUMBER(returned) ((uint32_t)((uint64_t)(returned) & 255u))
 #define POLAR_PLACE(returned) ((uint64_t)(returned) >> 8)
 
@@ -172,7 +177,13 @@ enum {
 enum { POLAR_BIN_MARK, POLAR_BIN_WORDS };
 enum { POLAR_LIST_COUNT, POLAR_LIST_NEXT_RAY, POLAR_LIST_NEXT_BIN, POLAR_LIST_WORDS };
 
-/* ---- runs, without a file (the place is always 0): "Run-length rule" ---- */
+/* ---- runs, without a file: "Run-length rule" ---- */
+
+/*
+ * The place of a refusal is 0, but for POLAR_DATA: there it is that of the octet at fault, counted from the first of
+ * `octets`, and octets_len where there are too few. A place over 2^56 - 1 (no memory has so many octets) is told as
+ * 2^56 - 1.
+ */
 
 /*
  * Run check: what polar_run_read would find in `octets` under V for n levels, with nothing lent.

@@ -36,6 +36,10 @@ static void opening(void)
     file[16 + 14] = 13;
     CHECK(polar_open(file, len, answer) == REFUSED(POLAR_FIELD, 16));
     file[16 + 14] = 6;
+    /* the data begins at 678: a digit of it that makes a run longer than the bins that are left */
+    file[681] = 141;
+    CHECK(polar_open(file, len, answer) == REFUSED(POLAR_DATA, 681));
+    file[681] = 134;
     for (i = 0; i < 9; i++)
         CHECK(answer[i] == 77);
 }

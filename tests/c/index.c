@@ -28,9 +28,9 @@ static void building(void)
     CHECK(polar_build_index(file, len, 1, records, 0) == POLAR_ARGUMENT);
     CHECK(polar_build_index(file, len, 0, NULL, 0) == POLAR_ROOM);
     CHECK(polar_build_index(file, len - 1, 0, records, 3) == POLAR_SECTION_0);
-    /* a bin too few */
+    /* a bin too few: one past the data, which is seven octets */
     file[DATA + 1] = 131;
-    CHECK(polar_build_index(file, len, 0, records, 3) == REFUSED(POLAR_DATA, SECTION_7));
+    CHECK(polar_build_index(file, len, 0, records, 3) == REFUSED(POLAR_DATA, DATA + 7));
     file[DATA + 1] = 132;
     CHECK(records[0].offset == 77 && records[0].before == 78 && records[1].offset == 77 && records[1].before == 78);
 
@@ -73,7 +73,7 @@ static void rays(void)
     CHECK(levels[0] == 0 && levels[1] == 0 && levels[2] == 130 && levels[4] == 130);
     /* and the ray's data alone is looked at: here the last octet is spoiled */
     file[DATA + 6] = 255;
-    CHECK(polar_ray_levels(file, len, 0, 0, levels, 6) == REFUSED(POLAR_DATA, SECTION_7));
+    CHECK(polar_ray_levels(file, len, 0, 0, levels, 6) == REFUSED(POLAR_DATA, DATA + 6));
     CHECK(polar_ray_levels_from(file, len, 0, 0, 0, 1, levels, 6) == 0);
     CHECK(levels[0] == 0 && levels[1] == 130 && levels[4] == 130);
     file[DATA + 6] = 0;

@@ -20,8 +20,8 @@ static void reading(void)
     CHECK(polar_run_read(octets, 3, 254, 1, levels, sizeof levels) == POLAR_V);
     CHECK(polar_run_read(octets, 3, 10, 2097153, levels, sizeof levels) == POLAR_ARGUMENT);
     CHECK(polar_run_read(octets, 3, 10, 246, levels, 245) == POLAR_ROOM);
-    CHECK(polar_run_read(octets, 3, 10, 245, levels, sizeof levels) == POLAR_DATA);
-    CHECK(polar_run_read(octets + 1, 2, 10, 1, levels, sizeof levels) == POLAR_DATA);
+    CHECK(polar_run_read(octets, 3, 10, 245, levels, sizeof levels) == REFUSED(POLAR_DATA, 2));
+    CHECK(polar_run_read(octets + 1, 2, 10, 1, levels, sizeof levels) == REFUSED(POLAR_DATA, 0));
     /* a V that fewer bits would hold as 10 */
     CHECK(polar_run_read(octets, 3, 256 + 10, 246, levels, sizeof levels) == POLAR_V);
     CHECK(polar_run_read(octets, 3, (UINT64_C(1) << 32) + 10, 246, levels, sizeof levels) == POLAR_V);
@@ -32,7 +32,63 @@ static void reading(void)
 
     /* no octets give no levels */
     CHECK(polar_run_check(octets, 0, 10, 0) == 0);
-    CHECK(polar_run_check(octets, 1, 10, 0) == POLAR_DATA);
+    CHECK(polar_run_check(octets, 1, 10, 0) == REFUSED(POLAR_DATA, 0));
+}
+
+/* Octets that do not give n levels under V, and the octet at fault. */
+static const struct {
+    uint8_t octets[8];
+    size_t len;
+    uint64_t v;
+    size_t n, at_fault;
+} faults[] = {
+    {{11}, 1, 10, 1, 0},                         /* opens above V: alone, */
+    {{11, 3}, 2, 10, 1, 0},                      /* ahead of what is wanted, */
+    {{255, 254, 3, 255}, 4, 253, 1, 0},          /* and ahead of more */
+    {{3}, 1, 10, 0, 0},                          /* passed: by the first octet, */
+    {{3, 4, 5, 6}, 4, 10, 2, 2},                 /* by a level, */
+    {{3, 4, 5}, 3, 10, 2, 2},                    /* which may be the last octet, */
+    {{3, 16, 9}, 3, 10, 5, 1},                   /* by a digit, */
+    {{3, 4, 11, 12}, 4, 10, 3, 3},               /* which may be the last octet, */
+    {{0, 131, 131, 132}, 4, 130, 1, 3},          /* behind zero digits, */
+    {{0, 131, 132, 131, 131, 7}, 6, 130, 1, 2},  /* and ahead of some */
+    {{0, 1, 1, 0, 1}, 5, 0, 1, 3},
+    {{7, 255, 255}, 3, 252, 8, 2},
+    {{3}, 0, 10, 1, 0},                          /* too few: no octet, */
+    {{3}, 1, 10, 2, 1},                          /* one, */
+    {{3, 4, 16}, 3, 10, 8, 3},                   /* more, */
+    {{3, 4, 16, 11, 11}, 5, 10, 8, 5},           /* and zero digits behind them */
+};
+
+static void faulty_octets(void)
+{
+    uint8_t levels[8];
+    size_t i, k;
+
+    memset(levels, 9, sizeof levels);
+    for (i = 0; i < sizeof faults / sizeof *faults; i++) {
+        const uint64_t refused = REFUSED(POLAR_DATA, faults[i].at_fault);
+
+        CHECK(polar_run_check(faults[i].octets, faults[i].len, faults[i].v, faults[i].n) == refused);
+        CHECK(polar_run_read(faults[i].octets, faults[i].len, faults[i].v, faults[i].n, levels, 8) == refused);
+        for (k = 0; k < sizeof levels; k++)
+            CHECK(levels[k] == 9);
+    }
+}
+
+/* A hundred thousand zero digits: ahead of the digit at fault, and behind it. */
+static void many_zeros(void)
+{
+    static uint8_t octets[100002];
+
+    memset(octets, 131, sizeof octets);
+    octets[0] = 0;
+    CHECK(polar_run_check(octets, sizeof octets, 130, 1) == 0);
+    CHECK(polar_run_check(octets, sizeof octets, 130, 2) == REFUSED(POLAR_DATA, 100002));
+    octets[100001] = 132;
+    CHECK(polar_run_check(octets, sizeof octets, 130, 1) == REFUSED(POLAR_DATA, 100001));
+    octets[1] = 133;
+    CHECK(polar_run_check(octets, sizeof octets, 130, 2) == REFUSED(POLAR_DATA, 1));
 }
 
 static void writing(void)
@@ -62,7 +118,7 @@ static void nulls(void)
     int64_t cut[10];
 
     CHECK(polar_run_check(NULL, 0, 10, 0) == 0);
-    CHECK(polar_run_check(NULL, 0, 10, 1) == POLAR_DATA);
+    CHECK(polar_run_check(NULL, 0, 10, 1) == REFUSED(POLAR_DATA, 0));
     CHECK(polar_run_read(NULL, 0, 10, 0, NULL, 0) == 0);
     CHECK(polar_run_read(octets, 1, 10, 1, NULL, 0) == POLAR_ROOM);
     CHECK(polar_run_write(NULL, 0, NULL, 0, answer) == 0 && answer[0] == 0 && answer[1] == 0);
@@ -116,6 +172,8 @@ static void no_values(void)
 int main(void)
 {
     reading();
+    faulty_octets();
+    many_zeros();
     writing();
     nulls();
     words();

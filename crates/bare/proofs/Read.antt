@@ -5,7 +5,7 @@ use mathlib.Core.Bool.{Bool, true, false, cond}
 use mathlib.Core.List.{List}
 use lib.Dec.{ltb}
 use borrow.Author.Tests.{le-ltb}
-use Rattle.runs.specs.Run.{levels, gives}
+use Rattle.runs.specs.Run.{levels, gives, faultAt}
 use Rattle.runs.specs.Runs.{Decodes}
 use Rattle.lent.specs.Lent.{front}
 use Rattle.bare.specs.Read.{readAnswer, readOut, ReadPromise, checkAnswer, CheckPromise}
@@ -42,19 +42,19 @@ asCheck R.Read = K.Gives
 asCheck (R.Refused F.V) = K.Refused C.V
 asCheck (R.Refused F.Argument) = K.Refused C.Argument
 asCheck (R.Refused F.Room) = K.Gives
-asCheck (R.Refused F.Data) = K.Refused C.Data
+asCheck (R.Refused (F.Data at)) = K.Refused (C.Data at)
 
-by-test : (a b c : Bool) →
-    asCheck (cond a (R.Refused F.V) (cond b (R.Refused F.Argument) (cond c R.Read (R.Refused F.Data)))) ≡ cond a (K.Refused C.V) (cond b (K.Refused C.Argument) (cond c K.Gives (K.Refused C.Data)))
+by-test : (a b c : Bool) (at : ℕ) →
+    asCheck (cond a (R.Refused F.V) (cond b (R.Refused F.Argument) (cond c R.Read (R.Refused (F.Data at))))) ≡ cond a (K.Refused C.V) (cond b (K.Refused C.Argument) (cond c K.Gives (K.Refused (C.Data at))))
 unfolding asCheck
-by-test true b c = refl
-by-test false true c = refl
-by-test false false true = refl
-by-test false false false = refl
+by-test true b c at = refl
+by-test false true c at = refl
+by-test false false true at = refl
+by-test false false false at = refl
 
 pub check-as-read : (v n room : ℕ) (s : List ℕ) → n ≤ room → asCheck (readAnswer v n room s) ≡ checkAnswer v n s
 unfolding readAnswer checkAnswer
-check-as-read v n room s h = simp (le-ltb room n h) (by-test (ltb 253 v) (ltb 2097152 n) (gives v n s))
+check-as-read v n room s h = simp (le-ltb room n h) (by-test (ltb 253 v) (ltb 2097152 n) (gives v n s) (faultAt v n s))
 
 pub check-one : {v n : ℕ} {s : List ℕ} {r r′ : RunCheck} → CheckPromise v n s r → CheckPromise v n s r′ → r ≡ r′
 check-one p q = p .answered ∙ sym (q .answered)

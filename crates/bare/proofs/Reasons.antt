@@ -1,18 +1,17 @@
 -- Demand 1 for the calls without a file, both ways: each refuses exactly where its reason holds, and answers exactly where none does. The tests are taken apart in their order: a call
 -- answers, or there is a reason; and where there is one it refuses so.
 use Prim.Native.Nat.{ℕ}
-use mathlib.Core.Path.{_≡_, refl, sym, _∙_, subst}
+use mathlib.Core.Path.{_≡_, refl, sym, ap, _∙_, subst}
 use mathlib.Core.Logic.{_⊎_, inl, inr, ⊎-elim, _↔_}
-use mathlib.Core.Bool.{Bool, true, false, cond, false≢true}
+use mathlib.Core.Bool.{Bool, true, false, cond}
 use mathlib.Core.List.{List}
 use native.Mathlib.Omega.{arith}
 use borrow.Author.Tests.{lt-ltb, le-ltb, ltb-true, ltb-false}
 use lib.Dec.{ltb}
 use lib.ListN.{length}
 use Rattle.octets.proofs.Orders.{by-order}
-use Rattle.runs.specs.Run.{gives}
-use Rattle.runs.specs.Runs.{Exactly}
-use Rattle.runs.proofs.Meaning.{gives-exactly, exactly-gives}
+use Rattle.runs.specs.Run.{gives, faultAt}
+use Rattle.runs.proofs.Fault.{gives-fault, fault-gives, fault-only}
 use Rattle.packing.specs.Write.{greatest, packed}
 use Rattle.bare.specs.Read.{readAnswer, ReadPromise, checkAnswer, CheckPromise}
 use Rattle.bare.specs.Write.{writeAnswer, WritePromise}
@@ -39,10 +38,6 @@ module _ {A Q : Type 0} {Refused : Q → A} {good a : A} {Why : Q → Type 0} (s
   answered : (a ≡ good) ↔ ((q : Q) → Why q → ⊥)
   answered = ((λ h q w. apart q (sym (by q w) ∙ h)), (λ none. ⊎-elim (λ h. h) (λ w. absurd (none (w .0) (w .1))) split))
 
-not-given : (v n : ℕ) (s : List ℕ) → (Exactly v n s → ⊥) → (b : Bool) → gives v n s ≡ b → gives v n s ≡ false
-not-given v n s h true e = absurd (h (gives-exactly v n s e))
-not-given v n s h false e = e
-
 -- ── run read ──
 
 module _ (v n : ℕ) (s d out : List ℕ) where
@@ -50,12 +45,12 @@ module _ (v n : ℕ) (s d out : List ℕ) where
   ReadWhy = ReadReason v n (length d) s
 
   read-split : (a b c g : Bool) → ltb 253 v ≡ a → ltb 2097152 n ≡ b → ltb (length d) n ≡ c → gives v n s ≡ g
-      → (cond a (R.Refused F.V) (cond b (R.Refused F.Argument) (cond c (R.Refused F.Room) (cond g R.Read (R.Refused F.Data)))) ≡ R.Read) ⊎ ((q : ReadRefusal) × ReadWhy q)
+      → (cond a (R.Refused F.V) (cond b (R.Refused F.Argument) (cond c (R.Refused F.Room) (cond g R.Read (R.Refused (F.Data (faultAt v n s)))))) ≡ R.Read) ⊎ ((q : ReadRefusal) × ReadWhy q)
   read-split true b c g ea eb ec eg = inr (F.V, ReadReason.by-v (ltb-true _ _ ea))
   read-split false true c g ea eb ec eg = inr (F.Argument, ReadReason.by-argument (ltb-false _ _ ea) (ltb-true _ _ eb))
   read-split false false true g ea eb ec eg = inr (F.Room, ReadReason.by-room (ltb-false _ _ ea) (ltb-false _ _ eb) (ltb-true _ _ ec))
   read-split false false false false ea eb ec eg =
-      inr (F.Data, ReadReason.by-data (ltb-false _ _ ea) (ltb-false _ _ eb) (ltb-false _ _ ec) (λ x. false≢true (sym eg ∙ exactly-gives v n s x)))
+      inr (F.Data (faultAt v n s), ReadReason.by-data (ltb-false _ _ ea) (ltb-false _ _ eb) (ltb-false _ _ ec) (gives-fault v n s eg))
   read-split false false false true ea eb ec eg = inl refl
 
   read-by : (q : ReadRefusal) → ReadWhy q → readAnswer v n (length d) s ≡ R.Refused q
@@ -63,7 +58,8 @@ module _ (v n : ℕ) (s d out : List ℕ) where
   read-by q (ReadReason.by-v a) = rw (lt-ltb 253 v a)
   read-by q (ReadReason.by-argument a b) = rw (le-ltb 253 v a, lt-ltb 2097152 n b)
   read-by q (ReadReason.by-room a b c) = rw (le-ltb 253 v a, le-ltb 2097152 n b, lt-ltb (length d) n c)
-  read-by q (ReadReason.by-data a b c g) = rw (le-ltb 253 v a, le-ltb 2097152 n b, le-ltb (length d) n c, not-given v n s g (gives v n s) refl)
+  read-by q (ReadReason.by-data {at} a b c x) =
+      rw (le-ltb 253 v a, le-ltb 2097152 n b, le-ltb (length d) n c, fault-gives v n s .0 (at, x)) (ap (λ (k : ℕ). R.Refused (F.Data k)) (sym (fault-only v n at s x)))
 
   read-or : (readAnswer v n (length d) s ≡ R.Read) ⊎ ((q : ReadRefusal) × ReadWhy q)
   unfolding readAnswer
@@ -85,17 +81,18 @@ module _ (v n : ℕ) (s d out : List ℕ) where
 
 module _ (v n : ℕ) (s : List ℕ) where
   check-split : (a b g : Bool) → ltb 253 v ≡ a → ltb 2097152 n ≡ b → gives v n s ≡ g
-      → (cond a (K.Refused C.V) (cond b (K.Refused C.Argument) (cond g K.Gives (K.Refused C.Data))) ≡ K.Gives) ⊎ ((q : CheckRefusal) × CheckReason v n s q)
+      → (cond a (K.Refused C.V) (cond b (K.Refused C.Argument) (cond g K.Gives (K.Refused (C.Data (faultAt v n s))))) ≡ K.Gives) ⊎ ((q : CheckRefusal) × CheckReason v n s q)
   check-split true b g ea eb eg = inr (C.V, CheckReason.by-v (ltb-true _ _ ea))
   check-split false true g ea eb eg = inr (C.Argument, CheckReason.by-argument (ltb-false _ _ ea) (ltb-true _ _ eb))
-  check-split false false false ea eb eg = inr (C.Data, CheckReason.by-data (ltb-false _ _ ea) (ltb-false _ _ eb) (λ x. false≢true (sym eg ∙ exactly-gives v n s x)))
+  check-split false false false ea eb eg = inr (C.Data (faultAt v n s), CheckReason.by-data (ltb-false _ _ ea) (ltb-false _ _ eb) (gives-fault v n s eg))
   check-split false false true ea eb eg = inl refl
 
   check-by : (q : CheckRefusal) → CheckReason v n s q → checkAnswer v n s ≡ K.Refused q
   unfolding checkAnswer
   check-by q (CheckReason.by-v a) = rw (lt-ltb 253 v a)
   check-by q (CheckReason.by-argument a b) = rw (le-ltb 253 v a, lt-ltb 2097152 n b)
-  check-by q (CheckReason.by-data a b g) = rw (le-ltb 253 v a, le-ltb 2097152 n b, not-given v n s g (gives v n s) refl)
+  check-by q (CheckReason.by-data {at} a b x) =
+      rw (le-ltb 253 v a, le-ltb 2097152 n b, fault-gives v n s .0 (at, x)) (ap (λ (k : ℕ). K.Refused (C.Data k)) (sym (fault-only v n at s x)))
 
   check-or : (checkAnswer v n s ≡ K.Gives) ⊎ ((q : CheckRefusal) × CheckReason v n s q)
   unfolding checkAnswer

@@ -12,6 +12,7 @@ use Rattle.bare.specs.Read.{ReadPromise}
 use Rattle.bare.specs.declared.RunRead.{RunRead}
 use Rattle.bare.specs.declared.RunRead.the-variants as R
 use Rattle.runs.proofs.Meaning.{gives-exactly, levels-decode}
+use Rattle.runs.proofs.Fault.{fault-given}
 use Rattle.bare.proofs.Read.{read-levels}
 use Rattle.bare.proofs.Reasons.{read-answered, write-answered, write-tells}
 use Rattle.bare.specs.Reasons.{ReadReason, by-count, by-level}
@@ -43,7 +44,7 @@ no-reason : {v n room : ℕ} {s : List ℕ} → v ≤ 253 → n ≤ 2097152 → 
 no-reason low few fits exact q (ReadReason.by-v a) = omega arith
 no-reason low few fits exact q (ReadReason.by-argument a b) = omega arith
 no-reason low few fits exact q (ReadReason.by-room a b c) = omega arith
-no-reason low few fits exact q (ReadReason.by-data a b c d) = d exact
+no-reason low few fits exact q (ReadReason.by-data a b c x) = fault-given x exact
 
 -- Demand 2: the octets that run write wrote, given to run read with the V it answered and room for the levels, are read, and what then stands in
 -- front of the lent levels is the row that was written

@@ -5,7 +5,7 @@ use mathlib.Core.List.{List}
 use mathlib.Core.Bool.{cond}
 use lib.ListN.{length}
 use lib.Dec.{ltb}
-use Rattle.runs.specs.Run.{levels, gives}
+use Rattle.runs.specs.Run.{levels, gives, faultAt}
 use Rattle.lent.specs.Lent.{front}
 use Rattle.bare.specs.declared.ReadRefusal.{ReadRefusal}
 use Rattle.bare.specs.declared.ReadRefusal.the-variants as F
@@ -22,7 +22,7 @@ readAnswer v n room s =
     cond (ltb 253 v) (Refused F.V)
     (cond (ltb 2097152 n) (Refused F.Argument)
     (cond (ltb room n) (Refused F.Room)
-    (cond (gives v n s) Read (Refused F.Data))))
+    (cond (gives v n s) Read (Refused (F.Data (faultAt v n s))))))
 
 -- the lent levels d after it, p what the octets give: a refusal "changes no lent memory"
 abbrev pub readOut : RunRead → List ℕ → List ℕ → List ℕ
@@ -34,25 +34,25 @@ pub record ReadPromise (v n : ℕ) (s d : List ℕ) (answer : RunRead) (out : Li
   pub answered : answer ≡ readAnswer v n (length d) s
   pub held : out ≡ readOut answer (levels v s) d
 
--- "A refusal returns its number and a place", which is 0 for the bare run calls
+-- "A refusal returns its number and a place", which is 0 for the bare run calls but for 8: there it is that of the octet at fault
 abbrev pub readNumber : ReadRefusal → ℕ
 readNumber F.V = 12
 readNumber F.Argument = 10
 readNumber F.Room = 11
-readNumber F.Data = 8
+readNumber (F.Data at) = 8
 
 abbrev pub readPlace : ReadRefusal → ℕ
 readPlace F.V = 0
 readPlace F.Argument = 0
 readPlace F.Room = 0
-readPlace F.Data = 0
+readPlace (F.Data at) = at
 
 -- run check: what run read would find, with nothing lent: 12, 10, 8
 unfoldable pub checkAnswer : ℕ → ℕ → List ℕ → RunCheck
 checkAnswer v n s =
     cond (ltb 253 v) (K.Refused C.V)
     (cond (ltb 2097152 n) (K.Refused C.Argument)
-    (cond (gives v n s) K.Gives (K.Refused C.Data)))
+    (cond (gives v n s) K.Gives (K.Refused (C.Data (faultAt v n s)))))
 
 -- the promise of run check
 pub record CheckPromise (v n : ℕ) (s : List ℕ) (answer : RunCheck) : Type 0 where
@@ -61,9 +61,9 @@ pub record CheckPromise (v n : ℕ) (s : List ℕ) (answer : RunCheck) : Type 0 
 abbrev pub checkNumber : CheckRefusal → ℕ
 checkNumber C.V = 12
 checkNumber C.Argument = 10
-checkNumber C.Data = 8
+checkNumber (C.Data at) = 8
 
 abbrev pub checkPlace : CheckRefusal → ℕ
 checkPlace C.V = 0
 checkPlace C.Argument = 0
-checkPlace C.Data = 0
+checkPlace (C.Data at) = at

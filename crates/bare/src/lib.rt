@@ -5,11 +5,12 @@ ghost use Rattle.bare.specs.Read.{ReadPromise, CheckPromise};
 ghost use Rattle.bare.specs.Write.{WritePromise};
 
 // Why run read refuses, a case for each of its numbers in FORMAT.md, "Refusals": 12, 10, 11, 8.
+// The last has the offset of the octet at fault, which is the refusal's place.
 pub enum ReadRefusal {
     V,
     Argument,
     Room,
-    Data,
+    Data(usize),
 }
 
 // What run read answers: the levels are written, or a refusal.
@@ -32,18 +33,18 @@ pub fn run_read(octets: &[u8], v: u8, n: usize, out: &mut [u8]) -> RunRead
         return RunRead::Refused(ReadRefusal::Room);
     }
     let found = scan::scan_runs(octets, v, n);
-    let Scan::Exact = found else {
-        return RunRead::Refused(ReadRefusal::Data);
-    };
+    if let Scan::Off(at) = found {
+        return RunRead::Refused(ReadRefusal::Data(at));
+    }
     runs::levels_upto(octets, v, 0, n, out);
     RunRead::Read
 }
 
-// Why run check refuses: 12, 10, 8.
+// Why run check refuses: 12, 10, 8, the last with the offset of the octet at fault.
 pub enum CheckRefusal {
     V,
     Argument,
-    Data,
+    Data(usize),
 }
 
 // What run check answers.
@@ -64,7 +65,7 @@ pub fn run_check(octets: &[u8], v: u8, n: usize) -> RunCheck
     }
     match scan::scan_runs(octets, v, n) {
         Scan::Exact => RunCheck::Gives,
-        Scan::Off => RunCheck::Refused(CheckRefusal::Data),
+        Scan::Off(at) => RunCheck::Refused(CheckRefusal::Data(at)),
     }
 }
 

@@ -22,7 +22,7 @@ use Rattle.sections.specs.declared.Cut.{Cut}
 use Rattle.sections.specs.declared.Refusal.{Refusal}
 use Rattle.sections.specs.Refusal.{refuse}
 use Rattle.sections.specs.declared.Why.the-variants.{Frame, CutCount, Data}
-use Rattle.base_format.specs.Checks.{checks3, checks4, checks5, checks7, baseChecks, anyDataChecks7, anyDataChecks}
+use Rattle.base_format.specs.Checks.{checks3, checks4, checks5, dataFault, checks7, baseChecks, anyDataChecks7, anyDataChecks}
 use Rattle.base_format.specs.Verdict.{verdict, anyDataVerdict}
 use Rattle.base_format.specs.Accepted.{baseFormat, Accepted, anyDataFormat, AcceptedAnyData}
 use Rattle.base_format.proofs.Exact.{exact, any-exact}
@@ -189,7 +189,7 @@ module _ (s : List ℕ) where
       fails-any r other =
           behind (FirstFails r) (eqb at end) (check (refuse Frame at) (closes s x at) ∷ []) (frame ∷ cut ∷ before) (frame ∷ cut ∷ after)
           (two-fail r frame cut before after
-          (section-any (FirstFails r) x at (but-second r _ (refuse Data at) _ (λ e. other (sym (ap (λ (x : Refusal). numberOf (x .why)) e)))) (numberAt s at)))
+          (section-any (FirstFails r) x at (but-second r _ (refuse Data (dataFault s x at)) _ (λ e. other (sym (ap (λ (x : Refusal). numberOf (x .why)) e)))) (numberAt s at)))
 
     passed-any : {seen : List Seen} {at : ℕ} → Passed baseChecks s end seen at → Passed anyDataChecks s end seen at
     passed-any first = first
@@ -206,7 +206,7 @@ other-same s r other e = any-exact .refused-all s r (refused-any s r other (exac
 -- ── and 8 is never given ──
 
 -- none of these checks is 8's
-abbrev NoEight : List Check → Type 0
+abbrev pub NoEight : List Check → Type 0
 NoEight [] = Unit {0}
 NoEight (check q ok ∷ cs) = (eqb (numberOf (q .why)) 8 ≡ false) × NoEight cs
 
@@ -214,7 +214,7 @@ of-both : (b : Bool) (X O : List Check) → NoEight X → NoEight O → NoEight 
 of-both true X O h k = h
 of-both false X O h k = k
 
-not-eight : (r : Refusal) (cs : List Check) → NoEight cs → FirstFails r cs → eqb (numberOf (r .why)) 8 ≡ false
+pub not-eight : (r : Refusal) (cs : List Check) → NoEight cs → FirstFails r cs → eqb (numberOf (r .why)) 8 ≡ false
 not-eight r (check q ok ∷ cs) n (this e) = n .0
 not-eight r (check q ok ∷ cs) n (later p f) = not-eight r cs (n .1) f
 

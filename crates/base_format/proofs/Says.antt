@@ -27,10 +27,11 @@ use Rattle.sections.proofs.There.{AllThere, Known}
 use Rattle.sections.proofs.Alike.{field-alike, rays-alike, points-alike, parameter-alike}
 use Rattle.sections.proofs.Asks.{also, alike, equal, lengths, leasts, done, named}
 use Rattle.sections.proofs.Says.{Says}
-use Rattle.sections.proofs.Inside.{either, OwnAt}
+use Rattle.sections.proofs.Inside.{either, OwnInside}
 use Rattle.base_format.specs.Parts.{productOf}
 use Rattle.base_format.specs.Checks.{baseChecks, anyDataChecks}
 use Rattle.base_format.specs.Accepted.{Section3, Section4, Section5, Section7, baseFormat, AnyDataSection7, anyDataFormat}
+use Rattle.base_format.proofs.Bounds.{fault-upto}
 use Rattle.base_format.proofs.Alike.{site-alike, greatest-alike, count-alike, table-alike, data-alike, rules3-alike, rules4-alike, rules5-alike}
 
 three : (s : List ℕ) (x : Context) (at : ℕ) → AllThere s at → AllHold (baseChecks s x at 3) ↔ Section3 (sectionAt s at)
@@ -114,14 +115,15 @@ pub few-points : (s : List ℕ) (x : Context) (at : ℕ) → AllHold (baseChecks
 unfolding rules3 baseChecks
 few-points s x at h = points-bound s at 50120 scanRules (h .1 .0)
 
--- and each check names the section's place
-pub own-at : OwnAt baseChecks
+-- and each check names a place of the section, or its end
+pub own-inside : OwnInside baseChecks
 unfolding baseChecks refuse
-own-at s x at n =
-    either (eqb n 3) at _ _ (refl, (refl, (refl, tt)))
-    (either (eqb n 4) at _ _ (refl, (refl, tt))
-    (either (eqb n 5) at _ _ (refl, (refl, (refl, (refl, tt))))
-    (either (eqb n 7) at _ _ (refl, (refl, tt)) tt)))
+own-inside s x at n five lies =
+    let here : at ≤ at + lengthAt s at = omega arith in
+    either (eqb n 3) _ _ _ (here, (here, (here, tt)))
+    (either (eqb n 4) _ _ _ (here, (here, tt))
+    (either (eqb n 5) _ _ _ (here, (here, (here, (here, tt))))
+    (either (eqb n 7) _ _ _ (here, (fault-upto s x at five lies, tt)) tt)))
 
 -- ── every check but 8 ──
 
@@ -155,6 +157,8 @@ any-says =
       four-long = λ first s3 s4 k. let l = k .long in omega arith;
     }
 
-pub any-own-at : OwnAt anyDataChecks
+pub any-own-inside : OwnInside anyDataChecks
 unfolding anyDataChecks refuse
-any-own-at s x at n = either (eqb n 7) at _ _ (refl, tt) (own-at s x at n)
+any-own-inside s x at n five lies =
+    let here : at ≤ at + lengthAt s at = omega arith in
+    either (eqb n 7) _ _ _ (here, tt) (own-inside s x at n five lies)

@@ -7,7 +7,7 @@ use Rattle.rules.specs.Rules.{field, meetsAll}
 use Rattle.base_format.specs.Rules.{rules3, rules4, rules5}
 use Rattle.rules.specs.Fields.{lengthAt, raysAt, pointsAt, parameterAt}
 use Rattle.base_format.specs.Fields.{siteAt, greatestAt, countAt}
-use Rattle.runs.specs.Run.{gives}
+use Rattle.runs.specs.Run.{gives, faultAt}
 use Rattle.values.specs.Published.{levelCount}
 use Rattle.values.specs.Table.{tableRight}
 use Rattle.sections.specs.Checks.{Check, check, FormatChecks}
@@ -40,12 +40,15 @@ pastLength5 s x at =
 abbrev pub checks5 : List ℕ → Context → ℕ → List Check
 checks5 s x at = check (refuse SectionLength at) (eqb (lengthAt s at) (17 + 2 * countAt s at)) ∷ pastLength5 s x at
 
--- the data is looked at last: 8
 abbrev pub anyDataChecks7 : List ℕ → ℕ → List Check
 anyDataChecks7 s at = check (refuse SectionLength at) (leb 6 (lengthAt s at)) ∷ []
 
+-- the data is looked at last: 8, whose place is that of the octet at fault, "counted in the file"
+abbrev pub dataFault : List ℕ → Context → ℕ → ℕ
+dataFault s x at = at + 5 + faultAt (greatestAt s (x .section5)) (pointsAt s (x .section3)) (dataAt s at)
+
 abbrev pub checks7 : List ℕ → Context → ℕ → List Check
-checks7 s x at = anyDataChecks7 s at ++ (check (refuse Data at) (gives (greatestAt s (x .section5)) (pointsAt s (x .section3)) (dataAt s at)) ∷ [])
+checks7 s x at = anyDataChecks7 s at ++ (check (refuse Data (dataFault s x at)) (gives (greatestAt s (x .section5)) (pointsAt s (x .section3)) (dataAt s at)) ∷ [])
 
 unfoldable pub baseChecks : FormatChecks
 baseChecks s x at n =

@@ -13,7 +13,7 @@ ghost use mathlib.Core.Path.{_≡_};
 ghost use Prim.Native.Nat.{_+_, _≤_};
 ghost use lib.ListN.{length};
 ghost use Rattle.rules.specs.Fields.{lengthAt, pointsAt};
-ghost use Rattle.runs.specs.Run.{gives};
+ghost use Rattle.scan.specs.Inner.{scanned};
 ghost use Rattle.values.specs.Table.{tableRight};
 ghost use Rattle.sections.specs.Verdict.{firstFault};
 ghost use Rattle.rules.specs.Rules.{meets, meetsAll, within, magnitude, either};
@@ -128,17 +128,14 @@ fn table_at(s: &[u8], at: usize, product: Product) -> bool
     values::table_right(&s[from..to], product)
 }
 
-fn data_at(s: &[u8], at: usize, v: u8, bins: usize) -> bool
+fn data_at(s: &[u8], at: usize, v: u8, bins: usize) -> Scan
     requires { ⌜ (5 ≤ lengthAt (now s) at) × (at + lengthAt (now s) at ≤ length (now s)) ⌝ }
     requires { ⌜ (v ≤ 253) × (bins ≤ 2097152) ⌝ }
-    ensures { λ r. ⌜ r ≡ gives v bins (dataAt (now (s .entry)) at) ⌝ }
+    ensures { λ r. ⌜ r ≡ scanned v bins (dataAt (now (s .entry)) at) ⌝ }
 {
     let from = at + 5;
     let to = sections::end_at(s, at);
-    match scan::scan_runs(&s[from..to], v, bins) {
-        Scan::Exact => true,
-        Scan::Off => false,
-    }
+    scan::scan_runs(&s[from..to], v, bins)
 }
 
 // Each kind of section.
@@ -218,7 +215,7 @@ fn judge5(s: &[u8], x: Context, at: usize) -> Judged
     }
 }
 
-// The checks before it have held the bins and V to what a scan takes.
+// The checks before it have held the bins and V to what a scan takes. The place of 8 is the octet at fault, and the data is the section's from its sixth octet on.
 pub fn judge7(s: &[u8], x: Context, at: usize) -> Judged
     requires { ⌜ at + lengthAt (now s) at ≤ length (now s) ⌝ }
     requires { ⌜ (pointsAt (now s) (x .section3) ≤ 2097152) × (greatestAt (now s) (x .section5) ≤ 252) ⌝ }
@@ -230,10 +227,10 @@ pub fn judge7(s: &[u8], x: Context, at: usize) -> Judged
     }
     let v = greatest_at(s, x.section5) as u8;
     let bins = rules::points_at(s, x.section3) as usize;
-    if data_at(s, at, v, bins) {
-        return Judged::Accepted;
+    match data_at(s, at, v, bins) {
+        Scan::Exact => Judged::Accepted,
+        Scan::Off(i) => sections::refused(Why::Data, at + 5 + i),
     }
-    sections::refused(Why::Data, at)
 }
 
 // The same but for the data.

@@ -6,6 +6,7 @@ use mathlib.Core.List.{List, [], _∷_}
 use lib.IntN.{ℤ, pos, negsuc}
 use lib.ListN.{replicate}
 use Rattle.packing.specs.Write.{greatest, digitsUpTo, digitsOf, code, onFrom, written}
+use Rattle.runs.specs.Run.{digitSum, levels, gives, passedFrom, faultAt}
 use Rattle.bare.specs.Read.{readAnswer, checkAnswer}
 use Rattle.bare.specs.Write.{writeAnswer}
 use Rattle.index.specs.declared.RayRecord.{RayRecord}
@@ -36,6 +37,15 @@ pub read-room : (w : ℕ) (out : List ℕ) → RunReadCall 10 2 (3 ∷ 12 ∷ []
 unfolding readAnswer
 read-room w out p = (p .returned, p .held)
 
+-- a place lost, or told as another's: of `0 131 131 132` under V = 130, for one bin, the fourth octet is at fault
+pub check-place : (w : ℕ) → RunCheckCall 130 1 (0 ∷ 131 ∷ 131 ∷ 132 ∷ []) w → w ≡ 8 + 256 * 3
+unfolding checkAnswer gives levels digitSum passedFrom faultAt
+check-place w p = p .returned
+
+pub read-place : (w : ℕ) (out : List ℕ) → RunReadCall 130 1 (0 ∷ 131 ∷ 131 ∷ 132 ∷ []) (9 ∷ []) w out → (w ≡ 8 + 256 * 3) × (out ≡ 9 ∷ [])
+unfolding readAnswer gives levels digitSum passedFrom faultAt
+read-place w out p = (p .returned, p .held)
+
 -- 10 told as 11: level 253
 pub write-level : (w : ℕ) (out words : List ℕ) → RunWriteCall (253 ∷ []) (9 ∷ []) (7 ∷ 8 ∷ []) w out words → (w ≡ 10) × (out ≡ 9 ∷ []) × (words ≡ 7 ∷ 8 ∷ [])
 unfolding writeAnswer greatest
@@ -49,11 +59,11 @@ write-ten w out words p = (p .returned, p .held, p .answered)
 
 -- ── files ──
 
--- a place told short: 8 at section 7's start, 673
-pub open-place : (w : ℕ) (words : List ℕ) → OpenCall dataShort (replicate 9 99) w words → (w ≡ 8 + 256 * 673) × (words ≡ replicate 9 99)
+-- a place told short: 8 at 685, one past the data
+pub open-place : (w : ℕ) (words : List ℕ) → OpenCall dataShort (replicate 9 99) w words → (w ≡ 8 + 256 * 685) × (words ≡ replicate 9 99)
 unfolding refuse
 open-place w words p =
-    let e = W.data-at-section-7 (openAnswer dataShort) (record { answer = refl }) in
+    let e = W.data-too-few (openAnswer dataShort) (record { answer = refl }) in
     (p .returned ∙ ap openReturn e, p .answered ∙ ap (λ x. openWords x (replicate 9 99)) e)
 
 -- rays for bins; a missing elevation shown as known

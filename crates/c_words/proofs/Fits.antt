@@ -1,4 +1,4 @@
--- What each call returns fits one word: the place of a refusal lies in the file, and a file that is longer than 8,388,608 octets is refused at place 0.
+-- What each call returns fits one word: the place of a refusal lies in the file or is its end, and a file that is longer than 8,388,608 octets is refused at place 0.
 use Prim.Native.Nat.{ℕ, _≤_, _<_}
 use mathlib.Core.Path.{_≡_, refl}
 use mathlib.Core.List.{List}
@@ -25,15 +25,15 @@ use Rattle.sections.specs.declared.Cut.{Cut}
 use Rattle.sections.specs.declared.Refusal.{Refusal}
 use Rattle.sections.specs.declared.Why.the-variants.{Argument, Room, Record}
 use Rattle.sections.proofs.Exact.{refused-only}
-use Rattle.sections.proofs.Inside.{OwnAt, refused-inside}
+use Rattle.sections.proofs.Inside.{OwnInside, refused-inside}
 use Rattle.base_format.specs.Parts.{productIn, levelIn}
 use Rattle.base_format.specs.Checks.{baseChecks, anyDataChecks}
-use Rattle.base_format.proofs.Says.{own-at, any-own-at}
+use Rattle.base_format.proofs.Says.{own-inside, any-own-inside}
 use Rattle.base_format.proofs.Exact.{any-exact}
 use Rattle.base_format.proofs.GoodCuts.{any-cut-of}
 use Rattle.dual_format.specs.Parts.{toldIn}
 use Rattle.dual_format.specs.Checks.{dualChecks}
-use Rattle.dual_format.proofs.Says.{own-at as dual-own-at}
+use Rattle.dual_format.proofs.Says.{own-inside as dual-own-inside}
 use Rattle.cuts.specs.Bins.{stretchesIn}
 use Rattle.cuts.specs.Records.{usableIn}
 use Rattle.calls.proofs.Judging.{never}
@@ -57,7 +57,7 @@ use Rattle.c_words.proofs.Word.{in-word}
 
 -- ── a call of any format, by what it returns for its answer ──
 
-module _ (own : FormatChecks) (own-at′ : OwnAt own) (s : List ℕ) where
+module _ (own : FormatChecks) (own-inside′ : OwnInside own) (s : List ℕ) where
   low : (r : Refusal) → r .place ≤ length s → RefusedBy own s r → r .place ≤ 8388608
   unfolding refuse
   low r h (size k) = omega arith
@@ -67,7 +67,7 @@ module _ (own : FormatChecks) (own-at′ : OwnAt own) (s : List ℕ) where
   module _ {A : Type 0} (bad : Refusal → A) (returned : A → ℕ) (is : (r : Refusal) → returned (bad r) ≡ wordOf r) where
     bad-fits : (r : Refusal) → verdictBy own s ≡ refused r → InWord (returned (bad r))
     bad-fits r e =
-        let h = low r (refused-inside own own-at′ s r e) (refused-only own s r e) in
+        let h = low r (refused-inside own own-inside′ s r e) (refused-only own s r e) in
         rw (is r) (in-word r (omega arith))
 
     pub file-fits : (some : ℕ → Cut → A) → ((n : ℕ) (c : Cut) → InWord (returned (some n c))) → InWord (returned (onFile bad some (verdictBy own s)))
@@ -110,16 +110,16 @@ module _ (own : FormatChecks) (own-at′ : OwnAt own) (s : List ℕ) where
 
 pub open-fits : (s : List ℕ) → InWord (openReturn (openAnswer s))
 unfolding openAnswer
-open-fits s = file-fits baseChecks own-at s O.Refused openReturn (λ r. refl) (λ n c. O.File (summaryOf s n c)) (λ n c. omega arith)
+open-fits s = file-fits baseChecks own-inside s O.Refused openReturn (λ r. refl) (λ n c. O.File (summaryOf s n c)) (λ n c. omega arith)
 
 pub cut-info-fits : (s : List ℕ) (i : ℕ) → InWord (cutReturn (cutAnswer s i))
 unfolding cutAnswer
-cut-info-fits s i = cut-fits baseChecks own-at s C.Refused cutReturn (λ r. refl) (λ c. C.Cut (infoOf s c)) i (λ cs e lt. omega arith)
+cut-info-fits s i = cut-fits baseChecks own-inside s C.Refused cutReturn (λ r. refl) (λ c. C.Cut (infoOf s c)) i (λ cs e lt. omega arith)
 
 pub ray-fits : (s : List ℕ) (i ray room : ℕ) → InWord (rayReturn (rayAnswer s i ray room))
 unfolding rayAnswer rayOn
 ray-fits s i ray room =
-    judged-fits baseChecks own-at s R.Refused rayReturn (λ r. refl) (λ c. ltb ray (raysIn s c)) (λ c. leb (binsIn s c) room) (λ c. true) (λ c. R.Written) i (λ c. refl)
+    judged-fits baseChecks own-inside s R.Refused rayReturn (λ r. refl) (λ c. ltb ray (raysIn s c)) (λ c. leb (binsIn s c) room) (λ c. true) (λ c. R.Written) i (λ c. refl)
     (λ cs e lt no. absurd (never .0 no))
 
 reading-returned : (x : Reading) → binReturn (binOf x) ≡ 0
@@ -130,13 +130,13 @@ reading-returned (G.Number z) = refl
 pub bin-fits : (s : List ℕ) (i ray bin : ℕ) → InWord (binReturn (binAnswer s i ray bin))
 unfolding binAnswer binOn
 bin-fits s i ray bin =
-    judged-fits baseChecks own-at s B.Refused binReturn (λ r. refl) (λ c. ltb ray (raysIn s c) && ltb bin (binsIn s c)) (λ c. true) (λ c. true) _ i
+    judged-fits baseChecks own-inside s B.Refused binReturn (λ r. refl) (λ c. ltb ray (raysIn s c) && ltb bin (binsIn s c)) (λ c. true) (λ c. true) _ i
     (λ c. reading-returned (readingOf (productIn s c) (levelIn s c ray bin))) (λ cs e lt no. absurd (never .0 no))
 
 pub stretches-fits : (s : List ℕ) (i : ℕ) (t : ℤ) (ray bin room : ℕ) → InWord (stretchReturn (stretchAnswer s i t ray bin room))
 unfolding stretchAnswer stretchesOn
 stretches-fits s i t ray bin room =
-    judged-fits baseChecks own-at s S.Refused stretchReturn (λ r. refl) (λ c. rightT t && rightPoint (binsIn s c) (raysIn s c) ray bin) (λ c. leb perEntry room) (λ c. true)
+    judged-fits baseChecks own-inside s S.Refused stretchReturn (λ r. refl) (λ c. rightT t && rightPoint (binsIn s c) (raysIn s c) ray bin) (λ c. leb perEntry room) (λ c. true)
     (λ c. S.Listed (answerOf (raysIn s c) room (stretchesIn s c t ray bin))) i (λ c. refl) (λ cs e lt no. absurd (never .0 no))
 
 -- ── by a record ──
@@ -144,14 +144,14 @@ stretches-fits s i t ray bin room =
 pub build-fits : (s : List ℕ) (i room : ℕ) → InWord (rayReturn (buildAnswer s i room))
 unfolding buildAnswer buildOn
 build-fits s i room =
-    judged-fits baseChecks own-at s R.Refused rayReturn (λ r. refl) (λ c. true) (λ c. leb (raysIn s c) room) (λ c. true) (λ c. R.Written) i (λ c. refl)
+    judged-fits baseChecks own-inside s R.Refused rayReturn (λ r. refl) (λ c. true) (λ c. leb (raysIn s c) room) (λ c. true) (λ c. R.Written) i (λ c. refl)
     (λ cs e lt no. absurd (never .0 no))
 
 -- section 7 of an accepted file's cut lies in the file
 pub from-fits : (s : List ℕ) (i ray : ℕ) (rec : RayRecord) (room : ℕ) → InWord (rayReturn (fromAnswer s i ray rec room))
 unfolding fromAnswer fromOn
 from-fits s i ray rec room =
-    judged-fits anyDataChecks any-own-at s R.Refused rayReturn (λ r. refl) (λ c. ltb ray (raysIn s c)) (λ c. leb (binsIn s c) room) (λ c. usableIn s c rec) (λ c. R.Written) i (λ c. refl)
+    judged-fits anyDataChecks any-own-inside s R.Refused rayReturn (λ r. refl) (λ c. ltb ray (raysIn s c)) (λ c. leb (binsIn s c) room) (λ c. usableIn s c rec) (λ c. R.Written) i (λ c. refl)
     (λ cs e lt no.
     let file = any-exact .accepted-only s cs e in
     let inside = any-cut-of s cs file i lt .data-inside in
@@ -162,11 +162,11 @@ from-fits s i ray rec room =
 
 pub dual-open-fits : (s : List ℕ) → InWord (dualOpenReturn (D.openAnswer s))
 unfolding D.openAnswer
-dual-open-fits s = file-fits dualChecks dual-own-at s DO.Refused dualOpenReturn (λ r. refl) (λ n c. DO.File (D.summaryOf s n c)) (λ n c. omega arith)
+dual-open-fits s = file-fits dualChecks dual-own-inside s DO.Refused dualOpenReturn (λ r. refl) (λ n c. DO.File (D.summaryOf s n c)) (λ n c. omega arith)
 
 pub dual-cut-fits : (s : List ℕ) (i : ℕ) → InWord (dualCutReturn (D.cutAnswer s i))
 unfolding D.cutAnswer
-dual-cut-fits s i = cut-fits dualChecks dual-own-at s DC.Refused dualCutReturn (λ r. refl) _ i (λ cs e lt. omega arith)
+dual-cut-fits s i = cut-fits dualChecks dual-own-inside s DC.Refused dualCutReturn (λ r. refl) _ i (λ cs e lt. omega arith)
 
 cell-returned : (x : Cell) → binReturn (D.binOf x) ≡ 0
 unfolding D.binOf
@@ -176,5 +176,5 @@ cell-returned (L.Value x) = refl
 pub dual-bin-fits : (s : List ℕ) (i ray bin : ℕ) → InWord (binReturn (D.binAnswer s i ray bin))
 unfolding D.binAnswer D.binOn
 dual-bin-fits s i ray bin =
-    judged-fits dualChecks dual-own-at s B.Refused binReturn (λ r. refl) (λ c. ltb ray (raysIn s c) && ltb bin (binsIn s c)) (λ c. true) (λ c. true) _ i
+    judged-fits dualChecks dual-own-inside s B.Refused binReturn (λ r. refl) (λ c. ltb ray (raysIn s c) && ltb bin (binsIn s c)) (λ c. true) (λ c. true) _ i
     (λ c. cell-returned (toldIn s c ray bin)) (λ cs e lt no. absurd (never .0 no))

@@ -2,10 +2,12 @@
 use Prim.Native.Nat.{ℕ, _+_, _*_, _≤_, _<_}
 use mathlib.Core.Path.{_≡_, sym, _∙_, ap}
 use native.Mathlib.Omega.{arith}
+use borrow.Author.Tests.{le-leb, lt-leb}
+use Rattle.octets.proofs.Orders.{by-order}
 use Rattle.sections.specs.Refusal.{numberOf}
 use Rattle.sections.specs.declared.Refusal.{Refusal}
 use Rattle.sections.proofs.Numbers.{numbered}
-use Rattle.c_words.specs.Word.{refusalWord, wordOf, numberIn, placeIn, InWord}
+use Rattle.c_words.specs.Word.{refusalWord, wordOf, placeTold, numberIn, placeIn, InWord}
 
 pub number-back : (n place : ℕ) → n < 256 → numberIn (refusalWord n place) ≡ n
 number-back n place h = omega arith
@@ -29,3 +31,13 @@ not-answered r = let k = numbered (r .why) in omega arith
 -- a place under 2^55 goes out whole
 pub in-word : (r : Refusal) → r .place < 36028797018963968 → InWord (wordOf r)
 in-word r h = let k = numbered (r .why) in omega arith
+
+-- a place among lent octets that are no file goes out whole where 56 bits hold it, and its word fits whatever it is
+pub place-told : (place : ℕ) → place ≤ 0xFFFFFFFFFFFFFF → placeTold place ≡ place
+place-told place h = rw (le-leb place 0xFFFFFFFFFFFFFF h)
+
+pub told-in-word : (n place : ℕ) → n < 256 → InWord (refusalWord n (placeTold place))
+told-in-word n place h =
+    by-order place 0xFFFFFFFFFFFFFF
+    (λ low. rw (le-leb place 0xFFFFFFFFFFFFFF low) (omega arith))
+    (λ high. rw (lt-leb place 0xFFFFFFFFFFFFFF high) (omega arith))

@@ -10,15 +10,15 @@ use Rattle.bare.specs.declared.RunCheck.the-variants as K
 use Rattle.bare.specs.Write.{writeNumber, writePlace}
 use Rattle.bare.specs.declared.RunWrite.{RunWrite}
 use Rattle.bare.specs.declared.RunWrite.the-variants as W
-use Rattle.c_words.specs.Word.{refusalWord}
+use Rattle.c_words.specs.Word.{refusalWord, placeTold}
 
 abbrev pub checkReturn : RunCheck → ℕ
 checkReturn K.Gives = 0
-checkReturn (K.Refused why) = refusalWord (checkNumber why) (checkPlace why)
+checkReturn (K.Refused why) = refusalWord (checkNumber why) (placeTold (checkPlace why))
 
 abbrev pub readReturn : RunRead → ℕ
 readReturn R.Read = 0
-readReturn (R.Refused why) = refusalWord (readNumber why) (readPlace why)
+readReturn (R.Refused why) = refusalWord (readNumber why) (placeTold (readPlace why))
 
 abbrev pub writeReturn : RunWrite → ℕ
 writeReturn (W.Wrote v n) = 0

@@ -1,10 +1,16 @@
 -- What a call returns to C: 0 where nothing is refused, else the refusal in one word, its number + 256 x its place.
 use Prim.Native.Nat.{ℕ, _+_, _*_, _/_, _%_, _<_}
+use mathlib.Core.Bool.{cond}
+use lib.Dec.{leb}
 use Rattle.sections.specs.Refusal.{numberOf}
 use Rattle.sections.specs.declared.Refusal.{Refusal}
 
 abbrev pub refusalWord : ℕ → ℕ → ℕ
 refusalWord number place = number + 256 * place
+
+-- a place among lent octets that are no file: over 56 bits, which no memory has, it is told as the greatest that they hold
+abbrev pub placeTold : ℕ → ℕ
+placeTold place = cond (leb place 0xFFFFFFFFFFFFFF) place 0xFFFFFFFFFFFFFF
 
 abbrev pub wordOf : Refusal → ℕ
 wordOf r = refusalWord (numberOf (r .why)) (r .place)

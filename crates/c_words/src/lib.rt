@@ -6,7 +6,7 @@ ghost use mathlib.Core.List.{[]};
 ghost use Prim.Native.Nat.{_≤_};
 ghost use lib.ListN.{length};
 ghost use lib.Seq.{sets};
-ghost use Rattle.c_words.specs.Word.{wordOf, InWord};
+ghost use Rattle.c_words.specs.Word.{refusalWord, wordOf, placeTold, InWord};
 ghost use Rattle.c_words.specs.Arguments.{narrowV, narrowThreshold};
 ghost use Rattle.c_words.specs.Runs.{checkReturn, readReturn, writeReturn, writeWords};
 ghost use Rattle.c_words.specs.Files.{summaryWords, gridWords, openReturn, openWords, elevationWords, infoWords, cutReturn, cutWords, rayReturn, binReturn, binWords, binHeld, stretchReturn, stretchWords};
@@ -68,7 +68,17 @@ fn word_of(refusal: Refusal) -> u64
     number + 256 * place
 }
 
-// Of run check; the place of a bare run call's refusal is 0.
+// 8 of a bare run call, at a place among its octets: over 56 bits, which no memory has, it goes out as the greatest that they hold.
+fn data_word(at: usize) -> u64
+    ensures { λ r. ⌜ r ≡ refusalWord 8 (placeTold at) ⌝ }
+{
+    if 0xFFFFFFFFFFFFFF < at {
+        return 0xFFFFFFFFFFFFFF08;
+    }
+    8 + 256 * at as u64
+}
+
+// Of run check; but for 8 the place of a bare run call's refusal is 0.
 pub fn check_return(answer: RunCheck) -> u64
     ensures { λ r. ⌜ r ≡ checkReturn answer ⌝ }
 {
@@ -77,7 +87,7 @@ pub fn check_return(answer: RunCheck) -> u64
         RunCheck::Refused(why) => match why {
             CheckRefusal::V => 12,
             CheckRefusal::Argument => 10,
-            CheckRefusal::Data => 8,
+            CheckRefusal::Data(at) => data_word(at),
         },
     }
 }
@@ -92,7 +102,7 @@ pub fn read_return(answer: RunRead) -> u64
             ReadRefusal::V => 12,
             ReadRefusal::Argument => 10,
             ReadRefusal::Room => 11,
-            ReadRefusal::Data => 8,
+            ReadRefusal::Data(at) => data_word(at),
         },
     }
 }

@@ -1,6 +1,7 @@
 pub mod Determined
 pub mod Demand1
 pub mod NoTwelve
+pub mod Fault
 pub mod Lent
 pub mod Demand2
 pub mod Demand3

@@ -1,19 +1,19 @@
 -- NO 12. A refusal of a file has no such number. And nothing is lost by that: where a section 7 is judged, run read and run check, asked about the same data, V and bins,
--- never answer 12 (V over 253), and run check refuses by 8 exactly where the section's own checks do. The idea: the sections 3 and 5 last seen have passed, and hold the bins
+-- never answer 12 (V over 253), and run check refuses by 8 exactly where the section's own checks do, at the same octet. The idea: the sections 3 and 5 last seen have passed, and hold the bins
 -- and V (base_format `Held.antt`).
-use Prim.Native.Nat.{ℕ, _≤_, _<_}
-use mathlib.Core.Path.{_≡_, refl, sym, _∙_}
+use Prim.Native.Nat.{ℕ, _+_, _≤_, _<_}
+use mathlib.Core.Path.{_≡_, refl, sym, ap, subst, _∙_}
 use mathlib.Core.Logic.{_↔_}
 use mathlib.Core.List.{List}
-use mathlib.Core.Bool.{Bool, true, false, false≢true}
+use mathlib.Core.Bool.{Bool, true, false}
 use native.Mathlib.Omega.{arith}
 use borrow.Author.Tests.{le-leb}
 use lib.Dec.{leb}
 use lib.ListN.{length}
 use Rattle.rules.specs.Fields.{lengthAt, numberAt, pointsAt}
-use Rattle.runs.specs.Run.{gives}
-use Rattle.runs.specs.Runs.{Exactly}
-use Rattle.runs.proofs.Meaning.{gives-exactly, exactly-gives}
+use Rattle.runs.specs.Run.{gives, faultAt}
+use Rattle.runs.specs.Runs.{AtFault}
+use Rattle.runs.proofs.Fault.{gives-fault, fault-gives, fault-only}
 use Rattle.bare.specs.Read.{ReadPromise, CheckPromise}
 use Rattle.bare.specs.Reasons.{ReadReason, CheckReason}
 use Rattle.bare.specs.declared.RunRead.the-variants as R
@@ -23,7 +23,7 @@ use Rattle.bare.specs.declared.RunCheck.the-variants as K
 use Rattle.bare.specs.declared.CheckRefusal.the-variants as C
 use Rattle.bare.proofs.Reasons.{read-reason, check-reason, reason-check}
 use Rattle.sections.specs.Refusal.{numberOf, refuse}
-use Rattle.sections.specs.Checks.{FormatChecks, framed}
+use Rattle.sections.specs.Checks.{Check, FormatChecks, framed}
 use Rattle.sections.specs.History.{Seen, previous, lastSeen, contextOf}
 use Rattle.sections.specs.Refused.{FirstFails, this, later, Passed}
 use Rattle.sections.specs.Verdict.{endOf, firstFault}
@@ -79,28 +79,39 @@ module _ (own : FormatChecks) (like : LikeBase own) (s : List ℕ) (seen : List 
       go : CheckReason v bins (dataAt s at) C.V → ⊥
       go (CheckReason.by-v over) = let v-low = low in omega arith
 
-  -- 8, where the section is long enough to have data
+  -- 8, where the section is long enough to have data: run check's, with the offset counted in the file
   module _ (long : 6 ≤ lengthAt s at) where
-    -- the checks of a section 7 by what its data gives
-    given : (g : Bool) → gives v bins (dataAt s at) ≡ g → FirstFails (refuse Data at) (checks7 s (contextOf seen at) at) ↔ (g ≡ false)
-    unfolding contextOf
-    given true e = (
-      (λ f. let z = first-wrong (checks7 s (contextOf seen at) at) (refuse Data at) f in
-          let j : J.Accepted ≡ J.Refused (refuse Data at) = rw (le-leb 6 (lengthAt s at) long, e) at z in
-          let no : _≡_ {A = ℕ} 0 1 = cc j in absurd (omega arith)),
-      (λ f. absurd (false≢true (sym f))),
-    )
-    given false e = ((λ f. refl), (λ f. later (le-leb 6 (lengthAt s at) long) (this e)))
+    abbrev sevens : List Check
+    sevens = checks7 s (contextOf seen at) at
 
-    pub same-eight : (a : RunCheck) → CheckPromise v bins (dataAt s at) a → (a ≡ K.Refused C.Data) ↔ FirstFails (refuse Data at) (checks7 s (contextOf seen at) at)
-    same-eight a p = go (gives v bins (dataAt s at)) refl
-      where
-        go : (g : Bool) → gives v bins (dataAt s at) ≡ g → (a ≡ K.Refused C.Data) ↔ FirstFails (refuse Data at) (checks7 s (contextOf seen at) at)
-        go true e = ((λ q. absurd (no-reason (check-reason v bins (dataAt s at) C.Data (rw (sym q) p)))), (λ f. absurd (false≢true (sym (given true e .0 f)))))
-          where
-            no-reason : CheckReason v bins (dataAt s at) C.Data → ⊥
-            no-reason (CheckReason.by-data x y none) = none (gives-exactly v bins (dataAt s at) e)
-        go false e = (
-          (λ q. given false e .1 refl),
-          (λ f. reason-check v bins (dataAt s at) C.Data a (CheckReason.by-data (let l = low in omega arith) few (λ x. false≢true (sym e ∙ exactly-gives v bins (dataAt s at) x))) p),
-        )
+    -- what the checks of a section 7 find, by what its data gives
+    given : gives v bins (dataAt s at) ≡ true → firstFault sevens ≡ J.Accepted
+    unfolding contextOf
+    given e = rw (le-leb 6 (lengthAt s at) long, e)
+
+    fails : gives v bins (dataAt s at) ≡ false → FirstFails (refuse Data (at + 5 + faultAt v bins (dataAt s at))) sevens
+    unfolding contextOf
+    fails e = later (le-leb 6 (lengthAt s at) long) (this e)
+
+    -- the first that fails is one
+    same-place : (q r : Refusal) → FirstFails q sevens → FirstFails r sevens → q .place ≡ r .place
+    same-place q r f g = let e = sym (first-wrong sevens q f) ∙ first-wrong sevens r g in ap (λ (x : Refusal). x .place) (let same : q ≡ r = cc e in same)
+
+    module _ (i : ℕ) (a : RunCheck) (p : CheckPromise v bins (dataAt s at) a) where
+      to-file : a ≡ K.Refused (C.Data i) → FirstFails (refuse Data (at + 5 + i)) sevens
+      to-file e = go (check-reason v bins (dataAt s at) (C.Data i) (rw (sym e) p))
+        where
+          go : CheckReason v bins (dataAt s at) (C.Data i) → FirstFails (refuse Data (at + 5 + i)) sevens
+          go (CheckReason.by-data x y f) = rw (fault-only v bins i (dataAt s at) f) (fails (fault-gives v bins (dataAt s at) .0 (i, f)))
+
+      of-file : (g : Bool) → gives v bins (dataAt s at) ≡ g → FirstFails (refuse Data (at + 5 + i)) sevens → a ≡ K.Refused (C.Data i)
+      unfolding refuse
+      of-file true e f = let z : J.Accepted ≡ J.Refused (refuse Data (at + 5 + i)) = sym (given e) ∙ first-wrong sevens _ f in
+          let wrong : _≡_ {A = ℕ} 0 1 = cc z in absurd (omega arith)
+      of-file false e f =
+          let one = same-place _ _ f (fails e) in
+          let is : faultAt v bins (dataAt s at) ≡ i = omega arith in
+          reason-check v bins (dataAt s at) (C.Data i) a (CheckReason.by-data (let l = low in omega arith) few (subst (AtFault v bins (dataAt s at)) is (gives-fault v bins (dataAt s at) e))) p
+
+      pub same-eight : (a ≡ K.Refused (C.Data i)) ↔ FirstFails (refuse Data (at + 5 + i)) sevens
+      same-eight = (to-file, of-file (gives v bins (dataAt s at)) refl)

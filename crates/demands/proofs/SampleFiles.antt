@@ -6,7 +6,7 @@ use lib.ListN.{length, drop, replicate}
 use Rattle.octets.specs.Octets.{be, same, inOctets}
 use Rattle.rules.specs.Rules.{field, meets, meetsAll, rules0, rules1, rules6, rules8}
 use Rattle.rules.specs.Fields.{lengthAt, numberAt, binsAt, raysAt, pointsAt, parameterAt}
-use Rattle.runs.specs.Run.{digitSum, levels, gives}
+use Rattle.runs.specs.Run.{digitSum, levels, gives, passedFrom, faultAt}
 use Rattle.values.specs.Published.{levelCount, reflectivity, velocityEven, velocity, published, valuesFrom, tableOf}
 use Rattle.values.specs.Table.{signMagnitude, octetsOf, tableOctets, tableRight}
 use Rattle.values.specs.declared.Product.the-variants.{Reflectivity, Velocity}
@@ -123,6 +123,14 @@ document = likeDocument 10 0 10 252 reflectivityTable tenBins
 abbrev pub dataShort : List ℕ
 dataShort = likeDocument 10 0 10 252 reflectivityTable (0 ∷ 132 ∷ 130 ∷ 134 ∷ 1 ∷ 132 ∷ 0 ∷ [])
 
+-- its first octet is above V
+abbrev pub dataAbove : List ℕ
+dataAbove = likeDocument 10 0 10 252 reflectivityTable (131 ∷ 132 ∷ 130 ∷ 134 ∷ 1 ∷ 133 ∷ 0 ∷ [])
+
+-- its last run, of level 1, has a zero digit and one that adds 750 bins
+abbrev pub dataLong : List ℕ
+dataLong = likeDocument 10 0 10 252 reflectivityTable (0 ∷ 132 ∷ 130 ∷ 134 ∷ 1 ∷ 131 ∷ 137 ∷ [])
+
 -- section 1: 22 octets, and month 13
 abbrev pub longOne : List ℕ
 longOne = begin 42 22 13 ++ (0 ∷ []) ++ eight
@@ -155,10 +163,10 @@ abbrev pub greaterWindV : List ℕ
 greaterWindV = likeWind 252
 
 -- two cuts, each with a section 3 of its own: one ray of two bins at latitude -0.000005, of 5.60 dBZ and no data, its elevation missing; three rays of one bin at latitude
--- 0.000007, of 39.84 dBZ, 40.16 dBZ and no data, its elevation -0.05. With what may be spoiled: the second cut's parameter, site and V
-abbrev pub likeTwo : ℕ → ℕ → ℕ → List ℕ
-likeTwo parameter site v =
-    file 1328
+-- 0.000007, of 39.84 dBZ, 40.16 dBZ and no data, its elevation -0.05. With what may be spoiled: the second cut's parameter, site, V and data
+abbrev pub likeTwo : ℕ → ℕ → ℕ → List ℕ → List ℕ
+likeTwo parameter site v octets =
+    file (1325 + length octets)
     (three 2 2 1 0x80000005 0
     ++ four 1 47695 0xFFFF 1
     ++ five 2 252 252 reflectivityTable
@@ -166,20 +174,27 @@ likeTwo parameter site v =
     ++ three 3 1 3 7 0
     ++ four parameter site 0x8005 3
     ++ five 3 v 252 reflectivityTable
-    ++ rest (126 ∷ 127 ∷ 0 ∷ []))
+    ++ rest octets)
+
+abbrev pub threeBins : List ℕ
+threeBins = 126 ∷ 127 ∷ 0 ∷ []
 
 abbrev pub twoCuts : List ℕ
-twoCuts = likeTwo 1 47695 252
+twoCuts = likeTwo 1 47695 252 threeBins
 
 abbrev pub otherParameter : List ℕ
-otherParameter = likeTwo 2 47695 252
+otherParameter = likeTwo 2 47695 252 threeBins
 
 abbrev pub otherSite : List ℕ
-otherSite = likeTwo 1 47696 252
+otherSite = likeTwo 1 47696 252 threeBins
 
 -- its own section 5 says V 253, under which runs could be read
 abbrev pub greaterV : List ℕ
-greaterV = likeTwo 1 47695 253
+greaterV = likeTwo 1 47695 253 threeBins
+
+-- the run of its second level has a zero digit and one that adds three bins
+abbrev pub laterLong : List ℕ
+laterLong = likeTwo 1 47695 252 (126 ∷ 127 ∷ 253 ∷ 254 ∷ [])
 
 -- ── the verdicts ──
 
@@ -187,7 +202,10 @@ pub record Verdicts : Type 0 where
   pub document-is : verdict document ≡ accepted (cutOf 37 78 146 673 ∷ [])
   pub wind-is : verdict wind ≡ accepted (cutOf 37 78 142 667 ∷ [])
   pub two-are : verdict twoCuts ≡ accepted (cutOf 37 78 142 669 ∷ cutOf 676 717 789 1316 ∷ [])
-  pub data-short : verdict dataShort ≡ refused (refuse Data 673)
+  pub data-short : verdict dataShort ≡ refused (refuse Data 685)
+  pub data-above : verdict dataAbove ≡ refused (refuse Data 678)
+  pub data-long : verdict dataLong ≡ refused (refuse Data 684)
+  pub later-long : verdict laterLong ≡ refused (refuse Data 1324)
   -- without check 8
   pub data-short-any : anyDataVerdict dataShort ≡ accepted (cutOf 37 78 146 673 ∷ [])
   pub length-1 : verdict longOne ≡ refused (refuse SectionLength 16)
@@ -201,13 +219,16 @@ pub record Verdicts : Type 0 where
   pub v-by-m : verdict greaterWindV ≡ refused (refuse Field 142)
 
 pub verdicts : Verdicts
-unfolding be same inOctets field meets meetsAll rules0 rules1 rules3 rules4 rules5 rules6 rules8 lengthAt numberAt binsAt raysAt pointsAt parameterAt siteAt greatestAt countAt levels digitSum gives levelCount reflectivity velocityEven velocity published valuesFrom tableOf signMagnitude octetsOf tableOctets tableRight refuse follows framed roomForCut sectionChecks closes checksAt lastSeen firstSeen cutsOf cutsSeen contextOf sections sized verdictBy productOf tableAt dataAt baseChecks anyDataChecks
+unfolding be same inOctets field meets meetsAll rules0 rules1 rules3 rules4 rules5 rules6 rules8 lengthAt numberAt binsAt raysAt pointsAt parameterAt siteAt greatestAt countAt levels digitSum gives passedFrom faultAt levelCount reflectivity velocityEven velocity published valuesFrom tableOf signMagnitude octetsOf tableOctets tableRight refuse follows framed roomForCut sectionChecks closes checksAt lastSeen firstSeen cutsOf cutsSeen contextOf sections sized verdictBy productOf tableAt dataAt baseChecks anyDataChecks
 verdicts =
     record {
       document-is = refl;
       wind-is = refl;
       two-are = refl;
       data-short = refl;
+      data-above = refl;
+      data-long = refl;
+      later-long = refl;
       data-short-any = refl;
       length-1 = refl;
       length-6 = refl;

@@ -13,8 +13,11 @@ use Rattle.polar.specs.Rays.{rayAnswer, levelsAfter}
 use Rattle.polar.specs.Promises.{OpenPromise, LevelsPromise}
 use Rattle.polar.specs.declared.Opened.{Opened}
 use Rattle.polar.specs.declared.Opened.the-variants as O
-use Rattle.runs.specs.Run.{digitSum, levels, gives}
-use Rattle.bare.specs.Read.{readAnswer, readOut, ReadPromise}
+use Rattle.runs.specs.Run.{digitSum, levels, gives, passedFrom, faultAt}
+use Rattle.bare.specs.Read.{readAnswer, readOut, ReadPromise, checkAnswer, CheckPromise}
+use Rattle.bare.specs.declared.CheckRefusal.the-variants as C
+use Rattle.bare.specs.declared.RunCheck.{RunCheck}
+use Rattle.bare.specs.declared.RunCheck.the-variants as L
 use Rattle.bare.specs.declared.ReadRefusal.the-variants as F
 use Rattle.bare.specs.declared.RunRead.{RunRead}
 use Rattle.bare.specs.declared.RunRead.the-variants as K
@@ -36,10 +39,39 @@ pub empty-file-ray : (r : RayAnswer) (out : List ℕ) → LevelsPromise [] 0 0 (
 unfolding rayAnswer levelsAfter onCut verdictBy sized
 empty-file-ray r out p = p .after ∙ ap (λ (x : RayAnswer). levelsAfter x [] 0 0 (8 ∷ 9 ∷ [])) (p .answer)
 
--- V = 10: `11 3` opens above V, and is refused by 8
-pub opens-above-v : (r : RunRead) (out : List ℕ) → ReadPromise 10 1 (11 ∷ 3 ∷ []) (0 ∷ []) r out → r ≡ K.Refused F.Data
-unfolding readAnswer gives
+-- V = 10: `11 3` opens above V, and is refused by 8 at its first octet
+pub opens-above-v : (r : RunRead) (out : List ℕ) → ReadPromise 10 1 (11 ∷ 3 ∷ []) (0 ∷ []) r out → r ≡ K.Refused (F.Data 0)
+unfolding readAnswer gives faultAt
 opens-above-v r out p = p .answered
+
+-- V = 130: of `0 131 131 132` for one bin the last octet is at fault, whose digit passes the bins: not the run's level, no zero digit, nor one past it
+pub digit-at-fault : (r : RunRead) (out : List ℕ) → ReadPromise 130 1 (0 ∷ 131 ∷ 131 ∷ 132 ∷ []) (0 ∷ []) r out → r ≡ K.Refused (F.Data 3)
+unfolding readAnswer gives levels digitSum passedFrom faultAt
+digit-at-fault r out p = p .answered
+
+-- and run check says the same
+pub digit-at-fault-checked : (r : RunCheck) → CheckPromise 130 1 (0 ∷ 131 ∷ 131 ∷ 132 ∷ []) r → r ≡ L.Refused (C.Data 3)
+unfolding checkAnswer gives levels digitSum passedFrom faultAt
+digit-at-fault-checked r p = p .answered
+
+-- V = 10: of `3 4 11 5` for two bins the level 5 is at fault
+pub level-at-fault : (r : RunRead) (out : List ℕ) → ReadPromise 10 2 (3 ∷ 4 ∷ 11 ∷ 5 ∷ []) (0 ∷ 0 ∷ []) r out → r ≡ K.Refused (F.Data 3)
+unfolding readAnswer gives levels digitSum passedFrom faultAt
+level-at-fault r out p = p .answered
+
+-- V = 10: `3 11` gives one bin where two are wanted: the fault is one past the data, not its last octet
+pub too-few-at-end : (r : RunRead) (out : List ℕ) → ReadPromise 10 2 (3 ∷ 11 ∷ []) (0 ∷ 0 ∷ []) r out → r ≡ K.Refused (F.Data 2)
+unfolding readAnswer gives levels digitSum passedFrom faultAt
+too-few-at-end r out p = p .answered
+
+-- one octet where no bin is wanted, and none where one is
+pub no-bin-wanted : (r : RunCheck) → CheckPromise 10 0 (3 ∷ []) r → r ≡ L.Refused (C.Data 0)
+unfolding checkAnswer gives levels digitSum passedFrom faultAt
+no-bin-wanted r p = p .answered
+
+pub no-octet : (r : RunCheck) → CheckPromise 10 1 [] r → r ≡ L.Refused (C.Data 0)
+unfolding checkAnswer gives levels digitSum passedFrom faultAt
+no-octet r p = p .answered
 
 -- V = 10: `3 11` is one 3. It goes to the front, and the octet past it is what it was
 pub one-three : (r : RunRead) (out : List ℕ) → ReadPromise 10 1 (3 ∷ 11 ∷ []) (9 ∷ 9 ∷ []) r out → out ≡ 3 ∷ 9 ∷ []

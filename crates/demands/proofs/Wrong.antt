@@ -46,7 +46,7 @@ use Rattle.polar.specs.declared.CutAnswer.the-variants as C
 use Rattle.polar.specs.declared.Elevation.the-variants.{Missing, Hundredths}
 use Rattle.polar.specs.declared.StretchAnswer.{StretchAnswer}
 use Rattle.polar.specs.declared.StretchAnswer.the-variants as S
-use Rattle.demands.proofs.SampleFiles.{document, dataShort, longOne, longSix, fieldAndPoints, pointsAndTable, lengthNotByM, wind, twoCuts, otherParameter, otherSite, greaterV, greaterWindV, verdicts}
+use Rattle.demands.proofs.SampleFiles.{document, dataShort, dataAbove, dataLong, longOne, longSix, fieldAndPoints, pointsAndTable, lengthNotByM, wind, twoCuts, laterLong, otherParameter, otherSite, greaterV, greaterWindV, verdicts}
 
 -- ── the file's own refusals ──
 
@@ -54,9 +54,22 @@ open-by : (s : List ℕ) (q : Refusal) → verdict s ≡ refused q → (r : Open
 unfolding openAnswer onFile
 open-by s q h r p = p .answer ∙ ap (onFile O.Refused (λ n c. O.File (summaryOf s n c))) h
 
--- a wrong place: Data at section 5's start, or at 0. It is section 7's
-pub data-at-section-7 : (r : Opened) → OpenPromise dataShort r → r ≡ O.Refused (refuse Data 673)
-data-at-section-7 = open-by dataShort _ (verdicts .data-short)
+-- a wrong place of 8, where there are too few bins: section 7's start (673), its last octet, the data's length counted from that start. It is one past the data, where `7777` stands
+pub data-too-few : (r : Opened) → OpenPromise dataShort r → r ≡ O.Refused (refuse Data 685)
+data-too-few = open-by dataShort _ (verdicts .data-short)
+
+-- where the first octet is above V: the section's start. It is that octet
+pub data-above-v : (r : Opened) → OpenPromise dataAbove r → r ≡ O.Refused (refuse Data 678)
+data-above-v = open-by dataAbove _ (verdicts .data-above)
+
+-- where the bins are passed: the section's start, the run's level (682), the zero digit after it, one past the fault, the offset counted from the section's start (679). It is the digit
+-- that passes them
+pub data-passed : (r : Opened) → OpenPromise dataLong r → r ≡ O.Refused (refuse Data 684)
+data-passed = open-by dataLong _ (verdicts .data-long)
+
+-- and in the second cut
+pub later-data-passed : (r : Opened) → OpenPromise laterLong r → r ≡ O.Refused (refuse Data 1324)
+later-data-passed = open-by laterLong _ (verdicts .later-long)
 
 -- 5 tested before 4, in section 1
 pub length-before-field : (r : Opened) → OpenPromise longOne r → r ≡ O.Refused (refuse SectionLength 16)

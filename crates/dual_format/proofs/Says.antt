@@ -1,5 +1,5 @@
 -- The checks of this format's own sections, at a place, ask just what `Accepted` says of the sections' octets, for any context.
-use Prim.Native.Nat.{ℕ, _≤_}
+use Prim.Native.Nat.{ℕ, _+_, _≤_}
 use mathlib.Core.Path.{_≡_, refl, _∙_, ap}
 use mathlib.Core.List.{List}
 use mathlib.Core.Logic.{_↔_}
@@ -21,7 +21,7 @@ use Rattle.sections.proofs.There.{AllThere, Known}
 use Rattle.sections.proofs.Alike.{field-alike, rays-alike, points-alike, parameter-alike}
 use Rattle.sections.proofs.Asks.{also, alike, equal, lengths, leasts, done, named}
 use Rattle.sections.proofs.Says.{Says}
-use Rattle.sections.proofs.Inside.{either, OwnAt}
+use Rattle.sections.proofs.Inside.{either, OwnInside}
 use Rattle.dual_format.specs.Rules.{flagRules, rules3, rules4, widthRule}
 use Rattle.dual_format.specs.Fields.{withLists, length3, least4, siteAt, referenceAt, widthAt, length7}
 use Rattle.dual_format.specs.Checks.{dualChecks}
@@ -118,11 +118,12 @@ pub few-points : (s : List ℕ) (x : Context) (at : ℕ) → AllHold (dualChecks
 unfolding rules3 dualChecks
 few-points s x at h = points-bound s at 50121 flagRules (h .1 .0)
 
--- and each check names the section's place
-pub own-at : OwnAt dualChecks
+-- and each check names the section's place, which is one of its own
+pub own-inside : OwnInside dualChecks
 unfolding dualChecks refuse
-own-at s x at n =
-    either (eqb n 3) at _ _ (refl, (refl, (refl, (refl, tt))))
-    (either (eqb n 4) at _ _ (refl, (refl, tt))
-    (either (eqb n 5) at _ _ (refl, (refl, (refl, (refl, tt))))
-    (either (eqb n 7) at _ _ (refl, tt) tt)))
+own-inside s x at n five lies =
+    let here : at ≤ at + lengthAt s at = omega arith in
+    either (eqb n 3) _ _ _ (here, (here, (here, (here, tt))))
+    (either (eqb n 4) _ _ _ (here, (here, tt))
+    (either (eqb n 5) _ _ _ (here, (here, (here, (here, tt))))
+    (either (eqb n 7) _ _ _ (here, tt) tt)))

@@ -9,9 +9,9 @@ use native.Mathlib.Numerals.{add-one}
 use native.Mathlib.Omega.{arith}
 use lib.ListN.{length, replicate, length-append, length-replicate}
 use lib.Dec.{leb, eqb}
-use borrow.Author.Tests.{le-leb, lt-leb}
+use borrow.Author.Tests.{le-leb, lt-leb, leb-true}
 use Rattle.octets.proofs.Orders.{by-order}
-use Rattle.runs.specs.Run.{base, digitSum, levels, gives}
+use Rattle.runs.specs.Run.{base, digitSum, levels, opens, gives}
 
 -- the definitions' cases
 pub digitSum-nil : (v k : ℕ) → digitSum v k [] ≡ 0
@@ -73,6 +73,12 @@ rest-right v k (o ∷ s) =
     by-order o v
     (λ h. omega (arith, digitSum-open v k o s h, ap length (levels-open v o s h), length-append (replicate (1 + digitSum v 0 s) o) (levels v s), length-replicate (1 + digitSum v 0 s) o, rest-open v (base v ^ k) o s h, rest-right v 0 s, ap (λ (w : ℕ). rest v w s) (pow-zero (base v))))
     (λ h. omega (arith, digitSum-digit v k o s h, ap length (levels-digit v o s h), rest-digit v (base v ^ k) o s h, rest-right v (k + 1) s, ap (λ (w : ℕ). rest v w s) (ap (λ (m : ℕ). base v ^ m) (add-one k) ∙ pow-suc (base v) k)))
+
+-- from where a run opens on, they are the bins
+pub rest-bins : (v : ℕ) (s : List ℕ) → opens v s ≡ true → length (levels v s) ≡ rest v 1 s
+rest-bins v [] e = omega (arith, ap length (levels-nil v), rest-nil v 1)
+rest-bins v (o ∷ s) e =
+    omega (arith, rest-right v 0 (o ∷ s), digitSum-open v 0 o s (leb-true o v e), ap (λ (w : ℕ). rest v w (o ∷ s)) (pow-zero (base v)))
 
 -- ---- the code's weight w, which stays once it is over n, does as well as the true one W
 unfoldable pub Weighs : ℕ → ℕ → ℕ → Type 0

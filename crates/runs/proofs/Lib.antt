@@ -1,7 +1,9 @@
 pub mod Bins
+pub mod Reach
 pub mod Steps
 pub mod Here
 pub mod Digits
 pub mod Meaning
+pub mod Fault
 pub mod Upto
 pub mod Passed

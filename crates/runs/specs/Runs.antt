@@ -2,7 +2,7 @@
 use Prim.Native.Nat.{ℕ, _+_, _-_, _*_, _^_, _≤_, _<_}
 use mathlib.Core.Path.{_≡_}
 use mathlib.Core.List.{List, [], _∷_, _++_}
-use lib.ListN.{length, replicate}
+use lib.ListN.{length, replicate, take}
 use Rattle.runs.specs.Run.{base}
 
 -- octets above V: digits
@@ -26,3 +26,12 @@ pub record Exactly (v n : ℕ) (s : List ℕ) : Type 0 where
   pub row : List ℕ
   pub decodes : Decodes v s row
   pub count : length row ≡ n
+
+-- "The octet at fault", of octets that are to stand for exactly n levels under V; proofs/Fault.antt: there is one exactly where they do not, and only one
+pub data AtFault (v n : ℕ) (s : List ℕ) : ℕ → Type 0 where
+  -- "the first data octet if it is above V"
+  above : {o : ℕ} {t : List ℕ} → s ≡ o ∷ t → v < o → AtFault v n s 0
+  -- "the level or digit octet at which the bins are first passed": the first i + 1 octets stand for more than n, and no fewer do
+  passed : {i m : ℕ} → Exactly v m (take (i + 1) s) → n < m → ((j k : ℕ) → j < i → Exactly v k (take (j + 1) s) → k ≤ n) → AtFault v n s i
+  -- "one past the data if there are too few"
+  too-few : {m : ℕ} → Exactly v m s → m < n → AtFault v n s (length s)

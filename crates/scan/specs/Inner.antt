@@ -2,10 +2,10 @@
 use Prim.Native.Nat.{ℕ}
 use mathlib.Core.List.{List}
 use mathlib.Core.Bool.{cond}
-use Rattle.runs.specs.Run.{gives}
+use Rattle.runs.specs.Run.{gives, faultAt}
 use Rattle.scan.specs.declared.Scan.{Scan}
 use Rattle.scan.specs.declared.Scan.the-variants.{Exact, Off}
 
--- what a scan for n bins finds
+-- what a scan for n bins finds: exactly these, or the octet at fault
 abbrev pub scanned : ℕ → ℕ → List ℕ → Scan
-scanned v n s = cond (gives v n s) Exact Off
+scanned v n s = cond (gives v n s) Exact (Off (faultAt v n s))

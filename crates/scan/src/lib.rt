@@ -4,13 +4,13 @@ ghost use mathlib.Core.Path.{_≡_};
 ghost use Prim.Native.Nat.{_≤_};
 ghost use Rattle.scan.specs.Inner.{scanned};
 
-// Whether octets give exactly the bins wanted.
+// Whether octets give exactly the bins wanted; if not, the offset of the octet at fault, which is their length where there are too few.
 pub enum Scan {
     Exact,
-    Off,
+    Off(usize),
 }
 
-// One pass over the octets, runs outside and digits inside: an octet that opens no run, or adds more bins than are left, leaves it at once.
+// One pass over the octets, runs outside and digits inside: an octet that opens no run, or adds more bins than are left, leaves it at once and is the one at fault.
 // The weight grows no more once it is over the bins of the largest cut: a digit other than zero then adds more than are left, and a tail of
 // zero digits cannot overflow it.
 pub fn scan_runs(octets: &[u8], v: u8, n: usize) -> Scan
@@ -21,7 +21,7 @@ pub fn scan_runs(octets: &[u8], v: u8, n: usize) -> Scan
         if n == 0 {
             return Scan::Exact;
         }
-        return Scan::Off;
+        return Scan::Off(0);
     }
     let base = 255 - v as usize; // B
     let mut i: usize = 0;
@@ -55,10 +55,10 @@ pub fn scan_runs(octets: &[u8], v: u8, n: usize) -> Scan
         }
     }
     if i < octets.len() {
-        return Scan::Off;
+        return Scan::Off(i);
     }
     if left == 0 { // no bin is owed
         return Scan::Exact;
     }
-    Scan::Off
+    Scan::Off(i)
 }

@@ -41,7 +41,7 @@ impl Problem {
     pub fn meaning(&self) -> String {
         match self {
             Problem::Refused(_, Some(instead)) => instead.clone(),
-            Problem::Refused(refusal, None) => refusal.reason().meaning().into(),
+            Problem::Refused(refusal, None) => refusal.meaning(),
             Problem::Unread(why) => format!("could not be read: {why}"),
             Problem::NotListed(why) => why.clone(),
         }

@@ -2,7 +2,8 @@
 mod common;
 
 use common::{all, blind, blind_on, command, told, Folder};
-use reference::maker::document_sample;
+use reference::maker::{document_sample, CutPlan, Plan};
+use reference::published::Product;
 use std::path::Path;
 use std::process::{Command, Stdio};
 
@@ -50,6 +51,33 @@ fn the_place_of_a_refusal() {
     let (listing, _, status) = all(&blind_on(&["--csv", "-"], &file));
     assert!(listing.contains("\n-,refused 3 at 37,,"), "{listing}");
     assert_eq!(status, Some(1));
+}
+
+/// Bad data is told with the octet at fault, in every form.
+fn tells_octet(file: &[u8], place: u64, octet: &str) {
+    let meaning = format!(
+        "the packed data does not give exactly the bins that it should give; at fault is octet {octet} of the file, counted from 0"
+    );
+    let why = format!("-: refused 8 at {place}: {meaning}\n");
+    assert_eq!(all(&blind_on(&["-"], file)), (why.clone(), format!("blind: {why}"), Some(1)));
+    let (rows, errors, status) = all(&blind_on(&["--csv", "-"], file));
+    assert!(rows.ends_with(&format!("\n-,refused 8 at {place},,,,,,,,,,,,,,\n")), "{rows}");
+    assert_eq!((errors, status), (format!("blind: {why}"), Some(1)));
+    let (lines, errors, status) = all(&blind_on(&["--json-lines", "-"], file));
+    let refused = format!(r#"{{"number":8,"place":{place},"meaning":"{meaning}"}}"#);
+    assert_eq!(lines, format!("{{\"file\":\"-\",\"status\":\"refused 8 at {place}\",\"refused\":{refused}}}\n"));
+    assert_eq!((errors, status), (format!("blind: {why}"), Some(1)));
+}
+
+#[test]
+fn the_octet_at_fault() {
+    // the data begins at 678: its fourth octet, a digit, makes a run longer than the bins that are left
+    let mut file = document_sample().file();
+    file[681] = 141;
+    tells_octet(&file, 681, "681");
+    // sections 0 to 6 have 16, 21, 41, 2108, 521 and 6 octets: behind 255,999 bins of 256,000 the file's last four stand
+    let short = CutPlan::of_data(500, 512, 1, vec![1; 255_999]);
+    tells_octet(&Plan::new(Product::Reflectivity, vec![short]).file(), 2713 + 5 + 255_999, "258,717");
 }
 
 #[test]

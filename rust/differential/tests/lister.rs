@@ -1,4 +1,5 @@
 //! The program `lister`, run as rt runs it, against the independent reader's text.
+use reference::cases;
 use reference::lister::{text, GREATEST_INPUT};
 use reference::maker::{document_sample, CutPlan, Plan};
 use reference::numbers::Numbers;
@@ -57,6 +58,15 @@ fn made_and_spoiled_files() {
         lists(&spoil_sections(&plan.sections(), &mut n));
         spoil(&mut file, &mut n);
         lists(&file);
+    }
+}
+
+/// Data that does not give its bins is told with the octet at fault.
+#[test]
+fn octets_at_fault() {
+    for case in cases::octets_at_fault().into_iter().filter(|case| case.file.len() <= GREATEST_INPUT) {
+        let (number, place) = case.verdict.expect("a refusal");
+        assert_eq!(listed(&case.file), format!("refused {number} at {place}\n"), "{}", case.name);
     }
 }
 

@@ -2,12 +2,12 @@
 use differential::compare::{run_check, run_read, run_write};
 use differential::ours;
 use reference::numbers::Numbers;
-use reference::runs::{write_run, MOST_LEVELS};
+use reference::runs::{levels_of, runs, write_run, MOST_LEVELS};
 use reference::shapes::pack_loosely;
 use reference::Refusal;
 
-/// Run check and run read at room for what is wanted, one less and somewhat more.
-fn reads(octets: &[u8], v: u8, n: usize) -> Result<(), u32> {
+/// Run check and run read at room for what is wanted, one less and somewhat more; answers a refusal's number and place.
+fn reads(octets: &[u8], v: u8, n: usize) -> Result<(), (u32, u64)> {
     let checked = run_check(octets, v, n);
     if n <= MOST_LEVELS {
         assert_eq!(run_read(octets, v, n, n), checked);
@@ -16,24 +16,29 @@ fn reads(octets: &[u8], v: u8, n: usize) -> Result<(), u32> {
     } else {
         assert_eq!(run_read(octets, v, n, 9), checked);
     }
-    checked.map_err(|refusal| refusal.number)
+    checked.map_err(|refusal| (refusal.number, refusal.place))
 }
 
+/// With the octet at fault where one level less is wanted; where one more is, that is one past the last.
 #[test]
 fn checked_examples_of_reading() {
-    for (v, octets, n) in
-        [(10, &[3, 11][..], 1), (10, &[3, 255], 245), (10, &[3, 11, 12], 246), (252, &[7, 255, 255], 9), (252, &[7, 253, 253, 254], 10)]
-    {
+    for (v, octets, n, passed) in [
+        (10, &[3, 11][..], 1, 0),
+        (10, &[3, 255], 245, 1),
+        (10, &[3, 11, 12], 246, 2),
+        (252, &[7, 255, 255], 9, 2),
+        (252, &[7, 253, 253, 254], 10, 3),
+    ] {
         assert_eq!(reads(octets, v, n), Ok(()));
-        assert_eq!(reads(octets, v, n - 1), Err(8));
-        assert_eq!(reads(octets, v, n + 1), Err(8));
+        assert_eq!(reads(octets, v, n - 1), Err((8, passed)));
+        assert_eq!(reads(octets, v, n + 1), Err((8, octets.len() as u64)));
     }
-    assert_eq!(reads(&[11, 3], 10, 2), Err(8));
+    assert_eq!(reads(&[11, 3], 10, 2), Err((8, 0)));
     assert_eq!(reads(&[], 10, 0), Ok(()));
-    assert_eq!(reads(&[3], 10, 0), Err(8));
+    assert_eq!(reads(&[3], 10, 0), Err((8, 0)));
     assert_eq!(reads(&[3], 253, 1), Ok(()));
-    assert_eq!(reads(&[3], 254, 1), Err(12));
-    assert_eq!(reads(&[3], 255, 1), Err(12));
+    assert_eq!(reads(&[3], 254, 1), Err((12, 0)));
+    assert_eq!(reads(&[3], 255, 1), Err((12, 0)));
 }
 
 #[test]
@@ -118,7 +123,7 @@ fn made_inputs_for_every_v() {
         for _ in 0..400 {
             let octets = made_octets(v, &mut n);
             // what the octets give, if they give anything that can be asked for, and numbers about it
-            let bins = reference::runs::runs(&octets, v).map_or(0, |runs| runs.iter().map(|run| run.length).fold(0, u128::saturating_add));
+            let bins = runs(&octets, v).map_or(0, |runs| levels_of(&runs));
             let bins = usize::try_from(bins).unwrap_or(usize::MAX);
             let wanted = match n.below(6) {
                 0 => bins.saturating_add(1),
@@ -171,7 +176,7 @@ fn weights_past_every_machine_number() {
             octets.resize(1 + zeros, v + 1);
             assert_eq!(run_check(&octets, v, 1), Ok(()));
             octets.push(v + 2);
-            assert_eq!(run_check(&octets, v, 1).map_err(|r| r.number), Err(8));
+            assert_eq!(run_check(&octets, v, 1), Err(Refusal { number: 8, place: 1 + zeros as u64 }));
             if zeros < 140 {
                 run_check(&octets, v, MOST_LEVELS).ok();
                 run_read(&octets, v, 40, 40).ok();
@@ -188,7 +193,7 @@ fn a_megabyte_of_zero_digits() {
     octets[1..].fill(1);
     assert_eq!(reads(&octets, 0, 1), Ok(()));
     *octets.last_mut().unwrap() = 2;
-    assert_eq!(reads(&octets, 0, 1), Err(8));
+    assert_eq!(reads(&octets, 0, 1), Err((8, (1 << 20) - 1)));
 }
 
 /// What is written reads back as the same levels; room one too short is refused.

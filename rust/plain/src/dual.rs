@@ -81,11 +81,11 @@ impl<'a> Format<'a> for Dual {
         self.grid.check_points(s, 6)
     }
 
-    fn section_7(&self, s: &'a [u8], _: usize) -> Result<Cut<'a>, u32> {
+    fn section_7(&self, s: &'a [u8], place: usize) -> Answer<Cut<'a>> {
         let Dual { grid, packing } = *self;
         let data = &s[5..];
         if data.len() != grid.bins * grid.rays * packing.octets_a_cell {
-            return Err(4);
+            return Err(Refusal(4, place as u64));
         }
         Ok(Cut { grid, packing, data })
     }

@@ -1,6 +1,6 @@
 //! Base files: sections 3, 4, 5 and 7, open and cut.
 use crate::frame::{self, be16, Format, Grid, Opened};
-use crate::{runs, Answer};
+use crate::{runs, Answer, Refusal};
 
 pub const fn value(product: u8, level: u8) -> i32 {
     let n = level as i32;
@@ -112,14 +112,16 @@ impl<'a, const DATA: bool> Format<'a> for Base<DATA> {
         Ok(())
     }
 
-    fn section_7(&self, s: &'a [u8], place: usize) -> Result<Cut<'a>, u32> {
+    fn section_7(&self, s: &'a [u8], place: usize) -> Answer<Cut<'a>> {
         if s.len() < 6 {
-            return Err(4);
+            return Err(Refusal(4, place as u64));
         }
         let Base { grid, azimuth, mode, elevation, v, .. } = *self;
         let data = &s[5..];
-        if DATA && !runs::gives(data, v, grid.bins * grid.rays) {
-            return Err(8);
+        if DATA {
+            if let Some(octet) = runs::at_fault(data, v, grid.bins * grid.rays) {
+                return Err(Refusal(8, (place + 5 + octet) as u64));
+            }
         }
         Ok(Cut { grid, azimuth, mode, elevation, v, data, place })
     }

@@ -88,7 +88,8 @@ fn section_6(s: &[u8]) -> Result<(), u32> {
     }
 }
 
-/// The sections that a format has its own rules for, and what was last seen of them. An error is the refusal's number.
+/// The sections that a format has its own rules for, and what was last seen of them. An error is the refusal's number, at the section;
+/// of a section 7, whose data has octets of its own to name, it is the whole refusal.
 pub trait Format<'a>: Default {
     type Cut;
 
@@ -97,7 +98,7 @@ pub trait Format<'a>: Default {
     fn section_4(&mut self, s: &[u8]) -> Result<(u8, u16), u32>;
     fn section_5(&mut self, s: &[u8]) -> Result<(), u32>;
     /// The cut that this section ends, which starts at `place`.
-    fn section_7(&self, s: &'a [u8], place: usize) -> Result<Self::Cut, u32>;
+    fn section_7(&self, s: &'a [u8], place: usize) -> Answer<Self::Cut>;
 }
 
 /// All the checks of a file. Each cut is handed on with its number, while those after it are still to be checked.
@@ -145,7 +146,7 @@ pub fn walk<'a, F: Format<'a>>(file: &'a [u8], on_cut: &mut dyn FnMut(usize, F::
             5 => format.section_5(section).map_err(refuse)?,
             6 => section_6(section).map_err(refuse)?,
             _ => {
-                on_cut(cuts, format.section_7(section, place).map_err(refuse)?);
+                on_cut(cuts, format.section_7(section, place)?);
                 cuts += 1;
             }
         }

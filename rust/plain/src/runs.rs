@@ -45,14 +45,15 @@ impl Iterator for Runs<'_> {
     }
 }
 
-/// Whether octets give exactly n bins. Lengths alone count, so one pass sums what each octet adds.
-pub fn gives(octets: &[u8], v: u8, n: usize) -> bool {
+/// The octet at fault where octets do not give exactly n bins: the first where it is above V, the one at which the bins are passed, or
+/// one past the last. Lengths alone count, so one pass sums what each octet adds.
+pub fn at_fault(octets: &[u8], v: u8, n: usize) -> Option<usize> {
     if octets.first().is_some_and(|first| *first > v) {
-        return false;
+        return Some(0);
     }
     let base = usize::from(255 - v);
     let (mut bins, mut weight) = (0, 1);
-    for octet in octets {
+    for (at, octet) in octets.iter().enumerate() {
         if *octet <= v {
             bins += 1;
             weight = 1;
@@ -61,10 +62,10 @@ pub fn gives(octets: &[u8], v: u8, n: usize) -> bool {
             weight = (weight * base).min(MOST_LEVELS);
         }
         if bins > n {
-            return false;
+            return Some(at);
         }
     }
-    bins == n
+    (bins < n).then_some(octets.len())
 }
 
 pub fn check(octets: &[u8], v: u8, n: usize) -> Answer<()> {
@@ -74,10 +75,10 @@ pub fn check(octets: &[u8], v: u8, n: usize) -> Answer<()> {
     if n > MOST_LEVELS {
         return Err(Refusal(10, 0));
     }
-    if !gives(octets, v, n) {
-        return Err(Refusal(8, 0));
+    match at_fault(octets, v, n) {
+        Some(octet) => Err(Refusal(8, octet as u64)),
+        None => Ok(()),
     }
-    Ok(())
 }
 
 pub fn read(octets: &[u8], v: u8, n: usize, levels: &mut [u8]) -> Answer<()> {

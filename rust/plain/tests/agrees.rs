@@ -31,6 +31,32 @@ fn runs_agree() {
     }
 }
 
+/// Refusal 8 of each cause, which octets under a random V seldom are.
+#[test]
+fn faults_agree() {
+    let mut n = Numbers::new(6);
+    // opened above V, passed, too few
+    let mut seen = [0; 3];
+    for round in 0..30_000 {
+        let v = n.within(0, 253) as u8;
+        let (len, longest) = (n.within(1, 20), n.one_of(&[1, 3, 600]));
+        let mut octets = shapes::pack_loosely(&n.levels(len, 0, v, longest), v, &mut n);
+        if round % 3 == 0 {
+            let at = n.below(octets.len());
+            octets[at] = n.octet();
+        }
+        let wanted = n.below(2 * len + 1);
+        let found = plain::runs::check(&octets, v, wanted);
+        assert_eq!(found, told(runs::run_check(&octets, v, wanted)), "V {v}, {wanted} wanted, {octets:?}");
+        assert_eq!(plain::runs::read(&octets, v, wanted, &mut [7; 40]), found);
+        if let Err(Refusal(_, place)) = found {
+            let cause = if octets[0] > v { 0 } else { 1 + usize::from(place as usize == octets.len()) };
+            seen[cause] += 1;
+        }
+    }
+    assert!(seen.iter().all(|times| *times > 300), "{seen:?}");
+}
+
 fn verdicts(cases: Vec<cases::Case>, open: impl Fn(&[u8]) -> Answer<Opened>) {
     for case in cases {
         let found = open(&case.file).err();

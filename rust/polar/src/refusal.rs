@@ -8,16 +8,27 @@ pub trait Reasons: Copy + fmt::Debug + 'static {
     /// All of them, in the order of their numbers.
     const ALL: &'static [Self];
 
+    /// What an octet at fault is counted in: what the call was lent.
+    const LENT: &'static str;
+
     /// Its number.
     fn number(self) -> u32;
 
     /// What it means, in a plain sentence.
     fn meaning(self) -> &'static str;
+
+    /// Whether its place is that of the octet at fault.
+    fn is_at_an_octet(self) -> bool;
 }
 
-/// An enum of reasons: a number for each case, and what it means.
+/// An enum of reasons: a number for each case, and what it means. At its end stand the case whose place is that of the octet at fault,
+/// and what that octet is counted in.
 macro_rules! reasons {
-    ($(#[$about:meta])* pub enum $reason:ident { $($(#[$about_case:meta])* $case:ident = $number:expr => $meaning:expr,)* }) => {
+    (
+        $(#[$about:meta])*
+        pub enum $reason:ident { $($(#[$about_case:meta])* $case:ident = $number:expr => $meaning:expr,)* }
+        $at_an_octet:ident at an octet of $lent:literal
+    ) => {
         $(#[$about])*
         #[derive(Debug, Clone, Copy, PartialEq, Eq, Hash)]
         pub enum $reason {
@@ -43,6 +54,7 @@ macro_rules! reasons {
 
         impl $crate::refusal::Reasons for $reason {
             const ALL: &'static [$reason] = $reason::ALL;
+            const LENT: &'static str = $lent;
 
             fn number(self) -> u32 {
                 self.number()
@@ -50,6 +62,10 @@ macro_rules! reasons {
 
             fn meaning(self) -> &'static str {
                 self.meaning()
+            }
+
+            fn is_at_an_octet(self) -> bool {
+                self == $reason::$at_an_octet
             }
         }
     };
@@ -84,7 +100,7 @@ reasons! {
         Points = 6 => "a section's number of points is not its bins times its rays",
         /// 7: the value table differs from the published one.
         Table = 7 => "the table of values is not the published one",
-        /// 8: data opens above V, or gives more or fewer bins than wanted.
+        /// 8: data opens above V, or gives more or fewer bins than wanted. The place is that of the octet at fault.
         Data = 8 => "the packed data does not give exactly the bins that it should give",
         /// 9: a 65th cut begins.
         CutCount = 9 => "the file has more than 64 cuts",
@@ -100,6 +116,7 @@ reasons! {
         Unread = 14 => "this kind of dual-polarisation file is not read: its reference value is no number, its cells are neither 8 nor 16 \
                         bits wide, or its scan is not a turn at one elevation",
     }
+    Data at an octet of "file"
 }
 
 /// A refusal: why, and where.
@@ -132,15 +149,50 @@ impl<R: Reasons> Refusal<R> {
         self.reason.number()
     }
 
-    /// The start of the section concerned, counted from 0 in the file; 0 where no section is concerned.
+    /// Where, counted from 0. For `Data` it is the octet at fault: the first of the data if it opens above V, the level or digit octet
+    /// at which the bins are first passed, or one past the data if there are too few. A call on a file counts it in the file, and a bare
+    /// run call from the first octet of the data. For every other reason it is the start of the section concerned, and 0 where no
+    /// section is.
+    ///
+    /// ```
+    /// let mut octets = include_bytes!("../../../samples/document01.bin").to_vec();
+    /// // the data begins at 678; this digit of it makes a run longer than the bins that are left
+    /// octets[681] = 141;
+    /// let refusal = polar::File::open(&octets).unwrap_err();
+    /// assert_eq!((refusal.reason(), refusal.place()), (polar::Reason::Data, 681));
+    /// ```
     pub fn place(self) -> u64 {
         self.place
+    }
+
+    /// What it means, in a plain sentence, with the octet at fault where its place is that octet's.
+    ///
+    /// ```
+    /// let refusal = polar::runs::check(&[0, 131, 131, 132], 130, 1).unwrap_err();
+    /// let meaning = "the packed data does not give exactly the bins that it should give; at fault is octet 3 of the data, counted from 0";
+    /// assert_eq!(refusal.meaning(), meaning);
+    /// assert_eq!(refusal.to_string(), format!("refused 8 at 3: {meaning}"));
+    /// ```
+    pub fn meaning(self) -> String {
+        let meaning = self.reason.meaning();
+        if !self.reason.is_at_an_octet() {
+            return meaning.into();
+        }
+        format!("{meaning}; at fault is octet {} of the {}, counted from 0", with_commas(self.place), R::LENT)
+    }
+}
+
+/// A number with its thousands set off by commas.
+fn with_commas(number: u64) -> String {
+    match number / 1000 {
+        0 => number.to_string(),
+        thousands => format!("{},{:03}", with_commas(thousands), number % 1000),
     }
 }
 
 impl<R: Reasons> fmt::Display for Refusal<R> {
     fn fmt(&self, f: &mut fmt::Formatter<'_>) -> fmt::Result {
-        write!(f, "refused {} at {}: {}", self.number(), self.place, self.reason.meaning())
+        write!(f, "refused {} at {}: {}", self.number(), self.place, self.meaning())
     }
 }
 
@@ -188,5 +240,40 @@ mod tests {
         let refusal = runs::Refusal::check(12).unwrap_err();
         assert_eq!((refusal.reason(), refusal.number(), refusal.place()), (runs::Reason::V, 12, 0));
         assert_eq!(refusal.to_string(), "refused 12 at 0: the greatest level of packed data is over 253");
+    }
+
+    #[test]
+    fn the_octet_at_fault_is_told() {
+        let meaning = "the packed data does not give exactly the bins that it should give";
+        for (place, octet) in [(678, "678"), (1000, "1,000"), (104_233, "104,233"), (8_388_604, "8,388,604"), (2_000_007, "2,000,007")] {
+            let of_file = crate::Refusal::check(8 + 256 * place).unwrap_err();
+            assert_eq!(
+                of_file.to_string(),
+                format!("refused 8 at {place}: {meaning}; at fault is octet {octet} of the file, counted from 0")
+            );
+            let of_data = runs::Refusal::check(8 + 256 * place).unwrap_err();
+            assert_eq!(
+                of_data.to_string(),
+                format!("refused 8 at {place}: {meaning}; at fault is octet {octet} of the data, counted from 0")
+            );
+        }
+        let first = runs::Refusal::check(8).unwrap_err();
+        assert_eq!(first.meaning(), format!("{meaning}; at fault is octet 0 of the data, counted from 0"));
+        let greatest = runs::Refusal::check(8 + 256 * ((1 << 56) - 1)).unwrap_err();
+        assert!(greatest.meaning().ends_with("; at fault is octet 72,057,594,037,927,935 of the data, counted from 0"));
+    }
+
+    /// No reason but `Data` is at an octet, and then its own meaning is all that is told.
+    #[test]
+    fn no_other_place_is_an_octets() {
+        fn tell<R: Reasons>() {
+            for reason in R::ALL.iter().filter(|reason| reason.number() != 8) {
+                let refusal = Refusal { reason: *reason, place: 1037 };
+                assert_eq!(refusal.meaning(), reason.meaning());
+                assert_eq!(refusal.to_string(), format!("refused {} at 1037: {}", reason.number(), reason.meaning()));
+            }
+        }
+        tell::<Reason>();
+        tell::<runs::Reason>();
     }
 }

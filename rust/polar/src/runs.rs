@@ -6,7 +6,7 @@ reasons! {
     /// Why a bare run call was refused: one case for each number that such a call can answer. Those that a call on a file can answer
     /// too have its number and its meaning.
     pub enum Reason {
-        /// 8: the octets open above V, or do not give exactly the levels wanted.
+        /// 8: the octets open above V, or do not give exactly the levels wanted. The place is that of the octet at fault.
         Data = OfFile::Data as isize => OfFile::Data.meaning(),
         /// 10: over [`MOST_LEVELS`] levels are wanted or given, or a level is over 252.
         Argument = OfFile::Argument as isize => OfFile::Argument.meaning(),
@@ -15,15 +15,20 @@ reasons! {
         /// 12: V is over 253, in [`check`] and [`read`].
         V = 12 => "the greatest level of packed data is over 253",
     }
+    Data at an octet of "data"
 }
 
-/// A refusal of a bare run call. No section is concerned: its place is 0.
+/// A refusal of a bare run call. For [`Reason::Data`] its place is the octet at fault, counted from 0 in the octets that were lent, and
+/// their number where they give too few levels; else it is 0.
 ///
 /// ```
 /// use polar::runs::{self, Reason};
 ///
 /// let refusal = runs::check(&[3], 254, 1).unwrap_err();
 /// assert_eq!((refusal.reason(), refusal.number(), refusal.place()), (Reason::V, 12, 0));
+/// // the digit 1 behind two zero digits makes a run of 15,626 levels
+/// let refusal = runs::check(&[0, 131, 131, 132], 130, 1).unwrap_err();
+/// assert_eq!((refusal.reason(), refusal.number(), refusal.place()), (Reason::Data, 8, 3));
 /// ```
 pub type Refusal = refusal::Refusal<Reason>;
 
@@ -43,7 +48,8 @@ pub struct Packed {
 ///
 /// ```
 /// assert!(polar::runs::check(&[3, 11, 12], 10, 246).is_ok());
-/// assert_eq!(polar::runs::check(&[3, 11, 12], 10, 245).unwrap_err().number(), 8);
+/// assert_eq!(polar::runs::check(&[3, 11, 12], 10, 245).unwrap_err().place(), 2);
+/// assert_eq!(polar::runs::check(&[3, 11, 12], 10, 247).unwrap_err().place(), 3);
 /// ```
 pub fn check(octets: &[u8], v: u8, n: usize) -> Result<(), Refusal> {
     Refusal::check(polar_sys::run_check(octets, v.into(), n))

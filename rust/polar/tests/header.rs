@@ -56,7 +56,7 @@ fn reasons() -> [Vec<(u32, String, &'static str)>; 2] {
 #[test]
 fn refusals() {
     let header = header();
-    let list = header.split("/* The refusals").nth(1).and_then(|rest| rest.split("/* What a call returned").next()).expect("the refusals");
+    let list = header.split("/* The refusals").nth(1).and_then(|rest| rest.split("What a call returned").next()).expect("the refusals");
     let (of_files, of_runs) = list.split_once("alone: no call on a file returns").expect("those of bare run calls alone");
     let mut sentences = sentences(&header);
     let [files, mut runs] = reasons();

@@ -114,6 +114,12 @@ impl Cases {
         self.add(name, assemble(sections), refusal.map(|(number, at)| (number, place_of(sections, at))));
     }
 
+    /// A case for these sections: refused by 8, at fault this octet of the data of section `at` of them, counted from 0.
+    fn data(&mut self, name: impl Into<String>, sections: &[Section], at: usize, octet: usize) {
+        assert_eq!(sections[at].number(), 7);
+        self.add(name, assemble(sections), Some((8, place_of(sections, at) + 5 + octet)));
+    }
+
     /// The fields' values inside their rules are accepted, those outside refused by this number.
     pub fn fields(&mut self, sound: &[Section], fields: &[Field], number: u32) {
         for f in fields {
@@ -151,7 +157,10 @@ impl Cases {
             self.change(format!("section 5 of {len} octets"), sound, 5, Some(4), |s| s.resize(len));
         }
         self.change("section 7 of 5 octets", sound, 7, Some(4), |s| s.resize(5));
-        self.change("section 7 of 6 octets", sound, 7, Some(8), |s| s.resize(6));
+        // one octet of data, one bin of ten
+        let mut sections = sound.to_vec();
+        sections[5].resize(6);
+        self.data("section 7 of 6 octets", &sections, 5, 1);
     }
 
     /// A grid past its ends, with the count of points that it would have.
@@ -215,32 +224,33 @@ impl Cases {
                 let mut cut = CutPlan::of_data(1, 1, v as u16, vec![0]);
                 self.add(format!("V is {v} and does not occur"), Plan::new(product, vec![cut.clone()]).file(), None);
                 cut.data = vec![v as u8 + 1];
-                let sound = Plan::new(product, vec![cut]).sections();
-                self.change(format!("V is {v} and the data opens above it"), &sound, 7, Some(8), |_| ());
+                let sections = Plan::new(product, vec![cut]).sections();
+                self.data(format!("V is {v} and the data opens above it"), &sections, 5, 0);
             }
         }
     }
 
     /// V about the greatest in the first cut, and in a later one whose section 5 says another V than the first's. The data of that cut
-    /// gives its bins under every V, or under none.
+    /// gives its six bins under every V, or under none.
     fn greatest_levels(&mut self) {
         let sound = CutPlan::of_levels(3, 2, &[9, 9, 1, 0, 0, 3]);
         for product in Product::BOTH {
             let m = product.levels();
             for v in about_the_greatest(product) {
-                // one octet for each bin; a bin too few, one too many, and octets that are digits under all V but 255
-                for (data, gives) in [(vec![0; 6], true), (vec![0; 5], false), (vec![0; 7], false), (vec![255; 5], false)] {
+                // one octet for each bin; a bin too few, one too many, and octets that are digits under all V but 255; each with its
+                // octet at fault
+                for (data, at_fault) in [(vec![0; 6], None), (vec![0; 5], Some(5)), (vec![0; 7], Some(6)), (vec![255; 5], Some(0))] {
                     for (cut, own_grid, section_5) in [(0, true, 3), (1, false, 7), (1, true, 8)] {
                         let name = format!("{product:?}, V of cut {cut} is {v}, data {data:?}");
                         let mut cuts = vec![sound.clone(); 2];
                         cuts[1].own_grid = own_grid;
                         (cuts[cut].v, cuts[cut].data) = (v, data.clone());
-                        let refusal = match (v <= m, gives) {
-                            (true, true) => None,
-                            (true, false) => Some((8, section_5 + 2)),
-                            (false, _) => Some((5, section_5)),
-                        };
-                        self.sections(name, &Plan::new(product, cuts).sections(), refusal);
+                        let sections = Plan::new(product, cuts).sections();
+                        match at_fault {
+                            _ if v > m => self.sections(name, &sections, Some((5, section_5))),
+                            Some(octet) => self.data(name, &sections, section_5 + 2, octet),
+                            None => self.sections(name, &sections, None),
+                        }
                     }
                 }
             }
@@ -351,6 +361,37 @@ impl Cases {
         });
     }
 
+    /// Data that does not give its cut's bins, with the place of the octet at fault by the lengths of what stands ahead of it: in the only
+    /// cut of a file, in the first of two, and in the second with a section 3 of its own and without.
+    fn octets_at_fault(&mut self) {
+        let sound = CutPlan::of_data(5, 2, 130, vec![0, 132, 130, 134, 1, 133, 0]);
+        let under_the_first = CutPlan { own_grid: false, ..sound.clone() };
+        // behind the sound cut's seven octets of data, sections 3, 4, 5 and 6 again, and a section 7's five
+        let second_data = FIRST_DATA + 7 + 41 + 68 + 521 + 6 + 5;
+        for (name, data, octet) in faults() {
+            let spoiled = |cut: &CutPlan| CutPlan { data: data.clone(), ..cut.clone() };
+            for (place, cuts, first_data) in [
+                ("the only cut", vec![spoiled(&sound)], FIRST_DATA),
+                ("the first of two cuts", vec![spoiled(&sound), sound.clone()], FIRST_DATA),
+                ("the second cut", vec![sound.clone(), spoiled(&sound)], second_data),
+                ("the second cut under the first's section 3", vec![sound.clone(), spoiled(&under_the_first)], second_data - 41),
+                // the first that is spoiled counts
+                ("both cuts", vec![spoiled(&sound), spoiled(&sound)], FIRST_DATA),
+            ] {
+                let file = Plan::new(Product::Reflectivity, cuts).file();
+                self.add(format!("{name}, {place}"), file, Some((8, first_data + octet)));
+            }
+        }
+        // one bin wanted: a section 4 of one ray has four octets less
+        let one_bin = CutPlan::of_data(1, 1, 130, vec![0, 131, 131, 132]);
+        self.add("one bin, zero digits and a digit", Plan::new(Product::Reflectivity, vec![one_bin]).file(), Some((8, FIRST_DATA - 4 + 3)));
+        // one past the data stands a section of a number that is not allowed there
+        let short = CutPlan { data: vec![0, 139], ..sound.clone() };
+        let mut sections = Plan::new(Product::Reflectivity, vec![short, sound]).sections();
+        sections[6].put(5, 1, 9);
+        self.add("8 before 3 of the next section", assemble(&sections), Some((8, FIRST_DATA + 2)));
+    }
+
     /// The ends of a file's length, and section 0.
     pub fn ends(&mut self, sound: Vec<u8>) {
         for len in [0, 19] {
@@ -396,6 +437,43 @@ impl Cases {
     }
 }
 
+/// Where the data of the first cut begins in a reflectivity file of two rays: behind sections 0, 1, 3, 4, 5 and 6 of 16, 21, 41, 68, 521
+/// and 6 octets, and the five that a section 7 has ahead of it.
+const FIRST_DATA: usize = 678;
+
+/// Data that does not give ten bins under V 130, with the octet at fault, counted from 0 in the data. 131 is the digit 0, 141 the digit
+/// 10; a run's second digit weighs 125.
+fn faults() -> Vec<(&'static str, Vec<u8>, usize)> {
+    let zeros = [131; 100_000];
+    vec![
+        ("a zero digit alone", vec![131], 0),
+        ("a digit ahead of ten bins", vec![132, 0, 140], 0),
+        ("zero digits ahead of ten bins", vec![131, 131, 0, 140], 0),
+        ("digits alone", vec![255, 131, 255], 0),
+        ("passed by a digit that is last", vec![0, 141], 1),
+        ("passed by a digit and more follows", vec![0, 141, 131, 1, 131], 1),
+        ("passed by a digit in the midst", vec![0, 132, 130, 140, 1, 133, 0], 3),
+        ("passed by a second digit", vec![0, 131, 132, 9], 2),
+        ("passed by the first of two digits", vec![0, 255, 255, 9], 1),
+        ("passed by a level that is last", vec![0, 140, 7], 2),
+        ("passed by a level and more follows", vec![0, 140, 7, 131, 1, 133], 2),
+        ("eleven levels", vec![1, 2, 3, 4, 5, 6, 7, 8, 9, 10, 11], 10),
+        ("zero digits, then passed by a digit", vec![0, 131, 131, 131, 132], 4),
+        ("zero digits on both sides of the digit that passes", vec![0, 131, 131, 132, 131, 131], 3),
+        ("ten bins and zero digits, then passed by a digit", vec![0, 140, 131, 131, 132], 4),
+        ("ten bins and zero digits, then passed by a level", vec![0, 140, 131, 131, 7], 4),
+        ("zero digits on both sides of the level that passes", vec![0, 140, 131, 7, 131, 131], 3),
+        ("passed by a digit behind many zeros", [&[0], &zeros[..], &[132]].concat(), 100_001),
+        ("passed by a level behind many zeros", [&[0, 140], &zeros[..], &[7]].concat(), 100_002),
+        ("passed by a digit, and many zeros", [&[0, 141], &zeros[..]].concat(), 1),
+        ("one bin", vec![0], 1),
+        ("nine bins", vec![0, 139], 2),
+        ("nine levels", vec![1, 2, 3, 4, 5, 6, 7, 8, 9], 9),
+        ("nine bins and zero digits", vec![0, 139, 131, 131, 131], 5),
+        ("nine bins and many zeros", [&[0, 139], &zeros[..]].concat(), 100_002),
+    ]
+}
+
 /// V at M, the greatest that section 5 may say, past it, and past what an octet holds.
 pub fn about_the_greatest(product: Product) -> [u16; 8] {
     let m = product.levels();
@@ -406,6 +484,13 @@ pub fn about_the_greatest(product: Product) -> [u16; 8] {
 pub fn greatest_levels() -> Vec<Case> {
     let mut cases = Cases::default();
     cases.greatest_levels();
+    cases.0
+}
+
+/// Those where data does not give its cut's bins, each with the place of the octet at fault.
+pub fn octets_at_fault() -> Vec<Case> {
+    let mut cases = Cases::default();
+    cases.octets_at_fault();
     cases.0
 }
 
@@ -426,6 +511,7 @@ pub fn all() -> Vec<Case> {
     cases.later_cuts();
     cases.orders(&two_bins);
     cases.order_of_checks();
+    cases.octets_at_fault();
     cases.ends(assemble(&of_levels(Product::Velocity, 2, 1, &[1, 2])));
     cases.many_cuts(&two_bins);
     cases.largest();

@@ -112,16 +112,19 @@ fn section_5(s: &Section, grid: &Grid, product: Product) -> Result<u8, Refusal> 
     Ok(v as u8)
 }
 
+/// Where the data of a section 7 begins in it.
+const DATA: usize = 5;
+
 /// The data, unchecked.
 fn data<'a>(s: &Section<'a>) -> Result<&'a [u8], Refusal> {
-    s.check(4, s.octets.len() >= 6)?;
-    Ok(&s.octets[5..])
+    s.check(4, s.octets.len() > DATA)?;
+    Ok(&s.octets[DATA..])
 }
 
-/// The data, which gives exactly the grid's bins under V.
+/// The data, which gives exactly the grid's bins under V; else refusal 8 at the octet at fault.
 fn section_7<'a>(s: &Section<'a>, grid: &Grid, v: u8) -> Result<&'a [u8], Refusal> {
     let data = data(s)?;
-    s.check(8, runs::exactly(data, v, grid.bins * grid.rays).is_some())?;
+    runs::exactly(data, v, grid.bins * grid.rays).or_else(|at_fault| refused_at(8, s.place + DATA + at_fault))?;
     Ok(data)
 }
 

@@ -1,5 +1,5 @@
 //! "Run-length rule", and the bare run calls, which alone test their arguments for 12.
-use crate::{refused, Refusal};
+use crate::{refused, refused_at, Refusal};
 use std::iter;
 
 /// The most bins that a cut can have, and the most levels that a run call takes.
@@ -16,27 +16,36 @@ pub struct Run {
     pub octets: usize,
 }
 
-/// 1 + the sum of digit k times B^k.
-fn length(digits: &[u8], v: u8) -> u128 {
+/// 1 + the sum of digit k times B^k: of no digit, of the first, of the first two, and so on to all of them.
+fn lengths(digits: &[u8], v: u8) -> impl Iterator<Item = u128> + '_ {
     let base = u128::from(255 - v);
-    let mut weight = 1u128;
-    let mut sum = 1u128;
-    for octet in digits {
-        sum = sum.saturating_add(u128::from(octet - v - 1).saturating_mul(weight));
-        weight = weight.saturating_mul(base);
-    }
-    sum
+    let weights = iter::successors(Some(1u128), move |weight| Some(weight.saturating_mul(base)));
+    let shares = digits.iter().zip(weights).map(move |(octet, weight)| u128::from(octet - v - 1).saturating_mul(weight));
+    iter::once(1).chain(shares).scan(0, |sum: &mut u128, share| {
+        *sum = sum.saturating_add(share);
+        Some(*sum)
+    })
 }
 
-/// The runs that octets write under V, or none where the first octet is above V and opens no run. A run's octets are looked at
-/// when it is asked for.
+/// That of all of them.
+fn length(digits: &[u8], v: u8) -> u128 {
+    lengths(digits, v).last().expect("the length of no digit")
+}
+
+/// Whether the first octet is above V and opens no run.
+fn opens_above(octets: &[u8], v: u8) -> bool {
+    octets.first().is_some_and(|first| *first > v)
+}
+
+/// Each run's octets: one up to V, and the octets above V that follow it.
+fn octets_of_runs(octets: &[u8], v: u8) -> impl Iterator<Item = &[u8]> {
+    octets.chunk_by(move |_, next| *next > v)
+}
+
+/// The runs that octets write under V, or none where they open above V. A run's octets are looked at when it is asked for.
 pub fn each_run(octets: &[u8], v: u8) -> Option<impl Iterator<Item = Run> + '_> {
-    if octets.first().is_some_and(|first| *first > v) {
-        return None;
-    }
-    // each run is one octet up to V, and the octets above V that follow it
     let run = move |run: &[u8]| Run { level: run[0], length: length(&run[1..], v), octets: run.len() };
-    Some(octets.chunk_by(move |_, next| *next > v).map(run))
+    (!opens_above(octets, v)).then(|| octets_of_runs(octets, v).map(run))
 }
 
 /// All those runs.
@@ -44,16 +53,40 @@ pub fn runs(octets: &[u8], v: u8) -> Option<Vec<Run>> {
     each_run(octets, v).map(Iterator::collect)
 }
 
-/// The runs of octets that write exactly n levels under V; none where they open above V, or write more or fewer.
-pub(crate) fn exactly(octets: &[u8], v: u8, n: usize) -> Option<Vec<Run>> {
-    let bins = |runs: &Vec<Run>| runs.iter().fold(0, |sum: u128, run| sum.saturating_add(run.length));
-    runs(octets, v).filter(|runs| bins(runs) == n as u128)
+/// How many levels runs give; the greatest number of its type stands for anything more.
+pub fn levels_of(runs: &[Run]) -> u128 {
+    runs.iter().fold(0, |sum: u128, run| sum.saturating_add(run.length))
 }
 
-/// The n levels that octets write under V, where they write exactly these.
-pub(crate) fn decode(octets: &[u8], v: u8, n: usize) -> Option<Vec<u8>> {
+/// How many levels octets that open a run write under V: the first of them, the first two, and so on to all of them. What the runs
+/// before an octet's own write is kept.
+fn levels_of_fronts(octets: &[u8], v: u8) -> impl Iterator<Item = u128> + '_ {
+    let fronts = octets_of_runs(octets, v).scan(0, move |before: &mut u128, run| {
+        let (ahead, digits) = (*before, &run[1..]);
+        *before = ahead.saturating_add(length(digits, v));
+        Some(lengths(digits, v).map(move |length| ahead.saturating_add(length)))
+    });
+    fronts.flatten()
+}
+
+/// The octet at fault, counted from 0, of octets that do not write exactly n levels under V: the first, where it is above V; else the
+/// first with which they write more than n; else, where they write fewer, one past the last.
+fn at_fault(octets: &[u8], v: u8, n: usize) -> usize {
+    if opens_above(octets, v) {
+        return 0;
+    }
+    levels_of_fronts(octets, v).position(|levels| levels > n as u128).unwrap_or(octets.len())
+}
+
+/// The runs of octets that write exactly n levels under V; else the octet at fault.
+pub(crate) fn exactly(octets: &[u8], v: u8, n: usize) -> Result<Vec<Run>, usize> {
+    runs(octets, v).filter(|runs| levels_of(runs) == n as u128).ok_or_else(|| at_fault(octets, v, n))
+}
+
+/// The n levels that octets write under V, where they write exactly these; else the octet at fault.
+pub(crate) fn decode(octets: &[u8], v: u8, n: usize) -> Result<Vec<u8>, usize> {
     let runs = exactly(octets, v, n)?;
-    Some(runs.iter().flat_map(|run| iter::repeat_n(run.level, run.length as usize)).collect())
+    Ok(runs.iter().flat_map(|run| iter::repeat_n(run.level, run.length as usize)).collect())
 }
 
 /// 12 and 10, by the arguments of run check and run read. A file has no such arguments: section 5 has held its V to M, and
@@ -68,9 +101,9 @@ fn arguments(v: u8, n: usize) -> Result<(), Refusal> {
     Ok(())
 }
 
-/// 8 where octets do not write what is wanted.
-fn wanted<T>(found: Option<T>) -> Result<T, Refusal> {
-    found.map_or_else(|| refused(8), Ok)
+/// 8 where octets do not write what is wanted, at the octet at fault.
+fn wanted<T>(found: Result<T, usize>) -> Result<T, Refusal> {
+    found.or_else(|at_fault| refused_at(8, at_fault))
 }
 
 /// Run check: what run read finds in octets, with no buffer lent.
@@ -132,6 +165,7 @@ pub fn run_write(levels: &[u8], room: &mut [u8]) -> Result<Written, Refusal> {
 #[cfg(test)]
 mod tests {
     use super::*;
+    use crate::numbers::Numbers;
 
     fn reads(octets: &[u8], v: u8, n: usize) -> Result<Vec<u8>, u32> {
         let mut levels = vec![0; n];
@@ -160,6 +194,115 @@ mod tests {
         let octets = [&[5, 13], &vec![11; 100_000][..]].concat();
         assert_eq!(reads(&octets, 10, 3), Ok(vec![5; 3]));
         assert_eq!(reads(&[&octets[..], &[12]].concat(), 10, 3), Err(8));
+    }
+
+    /// Refusal 8 at this octet, from run check and from run read.
+    fn faults(octets: &[u8], v: u8, n: usize, at: usize) {
+        let refused = refused_at(8, at);
+        assert_eq!(run_check(octets, v, n), refused, "V {v}, n {n}, {octets:?}");
+        assert_eq!(run_read(octets, v, n, &mut vec![0; n]), refused, "V {v}, n {n}, {octets:?}");
+    }
+
+    #[test]
+    fn data_that_opens_above_v() {
+        faults(&[11], 10, 1, 0);
+        // the rest alone would give what is wanted, or too much
+        faults(&[11, 3], 10, 1, 0);
+        faults(&[255, 3, 255], 10, 1, 0);
+        faults(&[1], 0, 0, 0);
+        faults(&[253, 7], 252, 1, 0);
+        faults(&[254, 253], 253, 1, 0);
+    }
+
+    /// At the octet whose own share passes what is wanted: under V 10 the digits of a run weigh 1, 245, 60,025.
+    #[test]
+    fn more_than_wanted() {
+        faults(&[3], 10, 0, 0);
+        faults(&[3, 3, 3], 10, 0, 0);
+        // a level: the second of one bin, the last of four
+        faults(&[3, 4, 5, 6], 10, 1, 1);
+        faults(&[3, 4, 5, 6], 10, 3, 3);
+        // a digit of 5 makes six bins, and its run's level alone made one
+        faults(&[3, 16], 10, 5, 1);
+        faults(&[3, 16, 9, 9], 10, 5, 1);
+        faults(&[3, 4, 16, 9], 10, 6, 2);
+        // a second digit of 1 makes 245 more
+        faults(&[3, 12, 12, 9], 10, 246, 2);
+        faults(&[3, 12, 12, 9], 10, 247, 3);
+        faults(&[0, 255], 0, 254, 1);
+        faults(&[7, 255, 255], 252, 8, 2);
+        faults(&[7, 254, 255, 255], 253, 2, 2);
+        faults(&[7, 254, 255, 255], 253, 3, 3);
+    }
+
+    /// A zero digit is never at fault: not before the octet that is, and not after it.
+    #[test]
+    fn zero_digits_about_the_fault() {
+        faults(&[0, 131, 131, 132], 130, 1, 3);
+        faults(&[0, 131, 131, 132, 131, 131], 130, 1, 3);
+        faults(&[0, 131, 131, 0, 131], 130, 1, 3);
+        faults(&[0, 132, 131, 131, 7], 130, 2, 4);
+        let zeros = vec![11; 100_000];
+        faults(&[&[3], &zeros[..], &[12]].concat(), 10, 1, 100_001);
+        faults(&[&[3], &zeros[..], &[3]].concat(), 10, 1, 100_001);
+        faults(&[&[3, 13], &zeros[..]].concat(), 10, 2, 1);
+        faults(&[&[3], &zeros[..]].concat(), 10, 2, 100_001);
+    }
+
+    #[test]
+    fn fewer_than_wanted() {
+        faults(&[], 10, 1, 0);
+        faults(&[3], 10, 2, 1);
+        faults(&[3, 4, 5], 10, 4, 3);
+        faults(&[3, 16], 10, 7, 2);
+        faults(&[3, 16, 11, 11], 10, 7, 4);
+        faults(&[3, 11, 12], 10, 247, 3);
+    }
+
+    /// The rule in its own words: each front of the octets decoded from nothing.
+    fn by_the_rule(octets: &[u8], v: u8, n: usize) -> Option<usize> {
+        let levels = |octets| runs(octets, v).map(|runs| levels_of(&runs));
+        let Some(all) = levels(octets) else { return Some(0) };
+        let passed = (0..octets.len()).find(|i| levels(&octets[..=*i]) > Some(n as u128));
+        passed.or((all < n as u128).then_some(octets.len()))
+    }
+
+    #[test]
+    fn every_fault_is_the_rules() {
+        let mut numbers = Numbers::new(141);
+        // none, opened above V, passed, too few
+        let mut seen = [0; 4];
+        for _ in 0..40_000 {
+            let (v, len) = (numbers.within(0, 253) as u8, numbers.below(12));
+            let octet = |n: &mut Numbers, i| {
+                let is_level = if i == 0 { !n.once_in(9) } else { n.once_in(2) };
+                (if is_level { n.within(0, v.into()) } else { n.within(usize::from(v) + 1, 255) }) as u8
+            };
+            let octets: Vec<u8> = (0..len).map(|i| octet(&mut numbers, i)).collect();
+            let n = numbers.one_of(&[0, 1, 3, 9, 300]);
+            let n = numbers.within(0, n);
+            let fault = by_the_rule(&octets, v, n);
+            match fault {
+                Some(at) => faults(&octets, v, n, at),
+                None => assert_eq!(run_check(&octets, v, n), Ok(()), "V {v}, n {n}, {octets:?}"),
+            }
+            let cause = match fault {
+                None => 0,
+                Some(_) if opens_above(&octets, v) => 1,
+                Some(at) if at < octets.len() => 2,
+                Some(_) => 3,
+            };
+            seen[cause] += 1;
+        }
+        assert!(seen.iter().all(|times| *times > 1000), "{seen:?}");
+    }
+
+    /// Two million octets are looked at once or twice, and not once for each front.
+    #[test]
+    fn the_fault_of_much_data() {
+        let levels = vec![3; MOST_LEVELS];
+        faults(&levels, 10, MOST_LEVELS - 1, MOST_LEVELS - 1);
+        faults(&[&[3], &vec![11; MOST_LEVELS][..], &[12]].concat(), 10, MOST_LEVELS, MOST_LEVELS + 1);
     }
 
     #[test]

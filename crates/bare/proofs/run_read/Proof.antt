@@ -8,9 +8,11 @@ use lib.ListN.{length}
 use lib.Seq.{take-all}
 use borrow.Author.Needs.{needs}
 use borrow.Author.Tests.{lt-ltb, le-ltb, le-leb}
-use Rattle.runs.specs.Run.{levels, gives}
+use Rattle.runs.specs.Run.{levels, gives, faultAt}
 use Rattle.lent.specs.Lent.{front}
 use Rattle.bare.specs.Read.{readAnswer}
+use Rattle.bare.specs.declared.ReadRefusal.the-variants.{Data}
+use Rattle.bare.specs.declared.RunRead.the-variants.{Refused}
 use Rattle.runs.proofs.Here.{gives-true}
 use Rattle.scan.proofs.Scanning.{told, missed}
 use Rattle.bare.proofs.run_read.Statement.{statement}
@@ -30,13 +32,13 @@ returns-3 c = record { answered = simp (lt-ltb _ _ (c .if3 .taken), le-ltb _ _ (
 
 returns-4 : tie.Need-returns-4
 unfolding readAnswer
-returns-4 c = let a = c .before .before .before .before .before .before .before .before .args in
-    let no = missed (gives (a .v) (a .n) (a .octets .now)) (sym (c .enum-told2 .given .1) ∙ c .before .before .scan-runs .ensures) in
-    record { answered = simp (le-ltb _ _ (c .before .before .before .if3 .left), le-ltb _ _ (c .before .before .before .before .if2 .left), le-ltb _ _ (c .before .before .before .before .before .if1 .left), no); held = refl }
+returns-4 c = let a = c .before .before .before .before .before .before .before .before .before .args in
+    let no = missed (gives (a .v) (a .n) (a .octets .now)) (faultAt (a .v) (a .n) (a .octets .now)) (c .before .found .given .0 .0) (sym (c .before .found .given .1) ∙ c .before .before .before .scan-runs .ensures) in
+    record { answered = simp (le-ltb _ _ (c .before .before .before .before .if3 .left), le-ltb _ _ (c .before .before .before .before .before .if2 .left), le-ltb _ _ (c .before .before .before .before .before .before .if1 .left), no .0) (ap (λ (i : ℕ). Refused (Data i)) (no .1)); held = refl }
 
 -- the octets give n bins
 exact : (c : tie.After-enum-told) → gives (c .before .before .before .before .before .before .before .before .args .v) (c .before .before .before .before .before .before .before .before .args .n) (c .before .before .before .before .before .before .before .before .args .octets .now) ≡ true
-exact c = told _ (sym (c .enum-told .given .1) ∙ c .before .before .scan-runs .ensures)
+exact c = told _ _ (sym (c .enum-told .given .1) ∙ c .before .before .scan-runs .ensures)
 
 levels-upto-requires : tie.Need-levels-upto-requires
 levels-upto-requires c κs = let a = c .before .before .before .before .before .before .before .before .before .args in
@@ -56,5 +58,5 @@ returns-5 c = let a = c .before .before .before .before .before .before .before 
 
 pub run-read-spec : {M : Type 1} → statement M
 run-read-spec =
-    tie.close (tie.spec returns returns-2 returns-3 (search needs) (search needs) (search needs) returns-4
+    tie.close (tie.spec returns returns-2 returns-3 (search needs) (search needs) returns-4 (search needs)
     levels-upto-requires (search needs) returns-5)

@@ -1,15 +1,21 @@
--- Length and data, each with its own way out.
+-- Length and data, each with its own way out: the octet at fault stands in the section, so its place fits.
 use Rattle.base_format.specs.Parts.{dataAt}
-use Rattle.runs.specs.Run.{gives}
+use Rattle.runs.specs.Run.{gives, faultAt}
+use Rattle.scan.specs.Inner.{scanned}
+use Rattle.scan.proofs.Scanning.{told, missed}
+use Rattle.sections.specs.Refusal.{refuse}
+use Rattle.sections.specs.declared.Why.the-variants.{Data}
+use Rattle.sections.specs.declared.Judged.the-variants.{Refused}
+use Rattle.base_format.proofs.Bounds.{fault-upto}
 use Rattle.rules.specs.Fields.{lengthAt, pointsAt}
 use Rattle.base_format.specs.Fields.{greatestAt}
 use borrow.Author.Tests.{lt-leb, le-leb}
 use denote.Ref.{now}
 use native.Mathlib.Omega.{arith}
-use Prim.Native.Nat.{_<_, _≤_}
-use mathlib.Core.Path.{_≡_, sym, _∙_}
-use mathlib.Core.Bool.{true}
-use lib.Dec.{leb}
+use Prim.Native.Nat.{ℕ, _+_, _<_, _≤_}
+use mathlib.Core.Path.{_≡_, sym, ap, _∙_}
+use mathlib.Core.Bool.{false}
+use lib.ListN.{length}
 use borrow.Author.Needs.{needs}
 use Rattle.base_format.proofs.judge7.Statement.{statement}
 use Rattle.base_format.proofs.judge7.Tie as tie
@@ -36,27 +42,52 @@ data-at-requires c κs = let s = c .before .before .before .before .before in
     let v = low (c .before) in
     ((long, s .pre .0), (omega arith, omega (arith, c .points-at .ensures, s .pre .1 .0)))
 
--- what the checks say of a section that is long enough: the scan's answer
+-- what the scan finds, by the fields of the file
 judged : (c : tie.After-data-at) → let a = c .before .before .before .before .before .before .args in
-    gives (greatestAt (now (a .s)) (a .x .section5)) (pointsAt (now (a .s)) (a .x .section3)) (dataAt (now (a .s)) (a .at)) ≡ c .data-at .result
+    c .data-at .result ≡ scanned (greatestAt (now (a .s)) (a .x .section5)) (pointsAt (now (a .s)) (a .x .section3)) (dataAt (now (a .s)) (a .at))
 unfolding greatestAt
 judged c = let a = c .before .before .before .before .before .before .args in
-    let v = sym (c .before .before .greatest-at .ensures) in
-    let bins = sym (c .before .points-at .ensures) in
-    (λ i. gives (v i) (bins i) (dataAt (now (a .s)) (a .at))) ∙ sym (c .data-at .ensures)
+    let v = c .before .before .greatest-at .ensures in
+    let bins = c .before .points-at .ensures in
+    c .data-at .ensures ∙ (λ i. scanned (v i) (bins i) (dataAt (now (a .s)) (a .at)))
 
-long : (c : tie.After-data-at) → let a = c .before .before .before .before .before .before .args in leb 6 (lengthAt (now (a .s)) (a .at)) ≡ true
+long : (c : tie.After-data-at) → let a = c .before .before .before .before .before .before .args in 6 ≤ lengthAt (now (a .s)) (a .at)
 unfolding lengthAt
-long c = let a = c .before .before .before .before .before .before .args in
-    le-leb 6 (lengthAt (now (a .s)) (a .at)) (omega (arith, c .before .before .before .before .length-at .ensures))
+long c = omega (arith, c .before .before .before .before .length-at .ensures)
+
+-- where it finds an octet at fault
+off : (c : tie.After-i) → let a = c .before .before .before .before .before .before .before .before .args in
+    let v = greatestAt (now (a .s)) (a .x .section5) in
+    let bins = pointsAt (now (a .s)) (a .x .section3) in
+    let octets = dataAt (now (a .s)) (a .at) in
+    (gives v bins octets ≡ false) × (c .i .given .0 .0 ≡ faultAt v bins octets)
+off c = missed _ _ _ (sym (c .i .given .1) ∙ judged (c .before .before))
+
+-- its place lies in the file, or is its end
+fits : (c : tie.After-i) → let a = c .before .before .before .before .before .before .before .before .args in a .at + 5 + c .i .given .0 .0 ≤ length (now (a .s))
+fits c = let s = c .before .before .before .before .before .before .before .before in
+    let a = s .args in
+    let l = long (c .before .before) in
+    let upto = fault-upto (now (a .s)) (a .x) (a .at) (omega arith) (s .pre .0) in
+    omega (arith, off c .1, s .pre .0)
+
+add-refused-2 : tie.Need-add-refused-2
+add-refused-2 c = let f = fits (c .before) in record { fits = omega arith }
 
 returns-2 : tie.Need-returns-2
-returns-2 c = rw (long (c .before), judged (c .before) ∙ c .if2 .taken)
+returns-2 c = let a = c .before .before .before .before .before .before .before .before .args in
+    let v = greatestAt (now (a .s)) (a .x .section5) in
+    let bins = pointsAt (now (a .s)) (a .x .section3) in
+    let octets = dataAt (now (a .s)) (a .at) in
+    let exact = told (gives v bins octets) (faultAt v bins octets) (sym (c .enum-told .given .1) ∙ judged (c .before .before)) in
+    rw (le-leb 6 _ (long (c .before .before)), exact)
 
 returns-3 : tie.Need-returns-3
-returns-3 c = rw (long (c .before .before), judged (c .before .before) ∙ c .before .if2 .left) (c .refused2 .ensures)
+returns-3 c = let o = off (c .before .before) in
+    let a = c .before .before .before .before .before .before .before .before .before .before .args in
+    rw (le-leb 6 _ (long (c .before .before .before .before)), o .0) (c .refused2 .ensures ∙ ap (λ (i : ℕ). Refused (refuse Data (a .at + 5 + i))) (o .1))
 
 pub judge7-spec : {M : Type 1} → statement M
 judge7-spec =
     tie.close (tie.spec (λ c κs. search needs) (λ c κs. search needs) returns (λ c κs. search needs) cast-v
-    (λ c κs. search needs) data-at-requires returns-2 (λ c κs. search needs) returns-3)
+    (λ c κs. search needs) data-at-requires (λ c. search needs) (λ c. search needs) (λ c. search needs) add-refused-2 (λ c κs. search needs) returns-2 returns-3)

@@ -1,6 +1,6 @@
--- `scan_runs` meets its contract: what is left of the octets, with the bins still to come and the weight so far, answers what all of them do.
-use Prim.Native.Nat.{_-_, _*_, _≤_, _<_}
-use mathlib.Core.Path.{_≡_, refl, sym, _∙_}
+-- `scan_runs` meets its contract: what is left of the octets, with the bins still to come and the weight so far, answers what all of them do; where it stops is the place that it tells.
+use Prim.Native.Nat.{ℕ, _-_, _*_, _≤_, _<_}
+use mathlib.Core.Path.{_≡_, refl, sym, ap, _∙_}
 use mathlib.Core.Logic.{_⊎_, inl, inr, ⊎-elim}
 use native.Mathlib.Omega.{arith}
 use native.Mathlib.Nat.{mul-le-mul}
@@ -15,13 +15,13 @@ use Rattle.scan.proofs.scan_runs.Statement.{statement}
 use Rattle.scan.proofs.scan_runs.Tie as tie
 
 abbrev Inv-digits : tie.InvT-digits
-Inv-digits octets v n base i₀ left₀ o₀ weight₀ i left o weight = (i < length octets) × (i₀ ≤ i) × (left ≤ n) × (weight ≤ 2097152 * 255) × (o ≡ getD octets i 0) × (inRun v left weight (drop i octets) ≡ scanned v n octets)
+Inv-digits octets v n base i₀ left₀ o₀ weight₀ i left o weight = (i < length octets) × (i₀ ≤ i) × (left ≤ n) × (weight ≤ 2097152 * 255) × (o ≡ getD octets i 0) × (inRun v left weight i (drop i octets) ≡ scanned v n octets)
 
 abbrev μ-digits : tie.MeasureT-digits
 μ-digits octets v n base i₀ left₀ o₀ weight₀ i left o weight = length octets - i
 
 abbrev Inv-runs : tie.InvT-runs
-Inv-runs octets v n base i₀ left₀ o₀ i left o = (i < length octets) × (left ≤ n) × (o ≡ getD octets i 0) × (atRun v left (drop i octets) ≡ scanned v n octets)
+Inv-runs octets v n base i₀ left₀ o₀ i left o = (i < length octets) × (left ≤ n) × (o ≡ getD octets i 0) × (atRun v left i (drop i octets) ≡ scanned v n octets)
 
 abbrev μ-runs : tie.MeasureT-runs
 μ-runs octets v n base i₀ left₀ o₀ i left o = length octets - i
@@ -32,11 +32,11 @@ octet c = omega (arith, c .before .digits .inv .4, c .before .before .shared-sli
 
 returns : tie.Need-returns Inv-digits μ-digits Inv-runs μ-runs
 returns c = let a = c .before .before .args in
-    sym (none-given (a .v) (a .n) (a .octets .now) (c .before .if1 .taken) ∙ all-read (a .n) (c .if2 .taken))
+    sym (none-given (a .v) (a .n) (a .octets .now) (c .before .if1 .taken) ∙ all-read (a .n) 0 (c .if2 .taken))
 
 returns-2 : tie.Need-returns-2 Inv-digits μ-digits Inv-runs μ-runs
 returns-2 c = let a = c .before .before .args in
-    sym (none-given (a .v) (a .n) (a .octets .now) (c .before .if1 .taken) ∙ too-few (a .n) (c .if2 .left))
+    sym (none-given (a .v) (a .n) (a .octets .now) (c .before .if1 .taken) ∙ too-few (a .n) 0 (c .if2 .left))
 
 runs-holds : tie.Need-runs-holds Inv-digits μ-digits Inv-runs μ-runs
 runs-holds c = let s = c .before .before in
@@ -80,34 +80,34 @@ digits-again-2 c = let a = c .before .before .before .before .before .before .be
 -- where the ways out meet: an octet fails, or all octets were read
 out : (c : tie.Left-runs Inv-digits μ-digits Inv-runs μ-runs) → let a = c .before .before .before .before .args in
     let whole = scanned (a .v) (a .n) (a .octets .now) in
-    ((whole ≡ Off) × (c .runs-test .i < length (a .octets .now))) ⊎ ((length (a .octets .now) ≤ c .runs-test .i) × (whole ≡ verdict 0 (c .runs-test .left)))
+    ((whole ≡ Off (c .runs-test .i)) × (c .runs-test .i < length (a .octets .now))) ⊎ ((length (a .octets .now) ≤ c .runs-test .i) × (whole ≡ verdict 0 (c .runs-test .left) (c .runs-test .i)))
 out c =
     let a = c .before .before .before .before .args in
     let s = a .octets .now in
     let r = c .before .runs in
     ⊎-elim
-    (λ w. inl (above-fails (a .v) (r .left) s (r .i) (r .o) _ (r .inv .0) (r .inv .2) (w .0 .left) (r .inv .3), omega (arith, w .1)))
+    (λ w. inl (above-fails (a .v) (r .left) s (r .i) (r .o) _ (r .inv .0) (r .inv .2) (w .0 .left) (r .inv .3) ∙ ap (λ (k : ℕ). Off k) (sym (w .1)), omega (arith, w .1)))
     (⊎-elim
-    (λ w. inl (full-fails (a .v) (r .left) s (r .i) (r .o) _ (r .inv .0) (r .inv .2) (w .0 .taken) (w .1 .taken) (r .inv .3), omega (arith, w .2)))
+    (λ w. inl (full-fails (a .v) (r .left) s (r .i) (r .o) _ (r .inv .0) (r .inv .2) (w .0 .taken) (w .1 .taken) (r .inv .3) ∙ ap (λ (k : ℕ). Off k) (sym (w .2)), omega (arith, w .2)))
     (⊎-elim
-    (λ w. inr (omega (arith, w .2 .taken, w .3), level-last (a .v) (r .left) s (r .i) (r .o) _ (r .inv .0) (r .inv .2) (w .0 .taken) (omega (arith, w .1 .left)) (w .2 .taken) (r .inv .3) ∙ (λ k. verdict 0 (sym (w .4) k))))
+    (λ w. inr (omega (arith, w .2 .taken, w .3), level-last (a .v) (r .left) s (r .i) (r .o) _ (r .inv .0) (r .inv .2) (w .0 .taken) (omega (arith, w .1 .left)) (w .2 .taken) (r .inv .3) ∙ (λ k. verdict 0 (sym (w .4) k) (sym (w .3) k))))
     (⊎-elim
     (λ w.
     let d = w .4 in
-    inl (past-fails (a .v) (d .left) (d .weight) s (d .i) (d .o) _ (d .inv .0) (d .inv .4) (w .5 .taken) (w .6 .taken) (d .inv .5), omega (arith, w .7)))
+    inl (past-fails (a .v) (d .left) (d .weight) s (d .i) (d .o) _ (d .inv .0) (d .inv .4) (w .5 .taken) (w .6 .taken) (d .inv .5) ∙ ap (λ (k : ℕ). Off k) (sym (w .7)), omega (arith, w .7)))
     (λ w.
     let d = w .4 in
-    inr (omega (arith, w .7 .taken, w .8), digit-last (a .v) (d .left) (d .weight) s (d .i) (d .o) _ (d .inv .0) (d .inv .4) (w .5 .taken) (w .6 .left) (w .7 .taken) (d .inv .5) ∙ (λ k. verdict 0 (sym (w .9) k)))))))
+    inr (omega (arith, w .7 .taken, w .8), digit-last (a .v) (d .left) (d .weight) s (d .i) (d .o) _ (d .inv .0) (d .inv .4) (w .5 .taken) (w .6 .left) (w .7 .taken) (d .inv .5) ∙ (λ k. verdict 0 (sym (w .9) k) (sym (w .8) k)))))))
     (c .runs-test .came)
 
 returns-3 : tie.Need-returns-3 Inv-digits μ-digits Inv-runs μ-runs
 returns-3 c = ⊎-elim (λ w. sym (w .0)) (λ w. absurd (omega arith)) (out (c .before))
 
 returns-4 : tie.Need-returns-4 Inv-digits μ-digits Inv-runs μ-runs
-returns-4 c = ⊎-elim (λ w. absurd (omega arith)) (λ w. sym (w .1 ∙ all-read _ (c .if9 .taken))) (out (c .before .before))
+returns-4 c = ⊎-elim (λ w. absurd (omega arith)) (λ w. sym (w .1 ∙ all-read _ _ (c .if9 .taken))) (out (c .before .before))
 
 returns-5 : tie.Need-returns-5 Inv-digits μ-digits Inv-runs μ-runs
-returns-5 c = ⊎-elim (λ w. sym (w .0)) (λ w. sym (w .1 ∙ too-few _ (c .if9 .left))) (out (c .before .before))
+returns-5 c = ⊎-elim (λ w. sym (w .0)) (λ w. sym (w .1 ∙ too-few _ _ (c .if9 .left))) (out (c .before .before))
 
 pub scan-runs-spec : {M : Type 1} → statement M
 scan-runs-spec =

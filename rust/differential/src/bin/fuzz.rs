@@ -10,7 +10,7 @@ use reference::index::Record;
 use reference::maker::{assemble, CutPlan, Plan, Section};
 use reference::numbers::Numbers;
 use reference::published::Product;
-use reference::runs::MOST_LEVELS;
+use reference::runs::{levels_of, MOST_LEVELS};
 use reference::shapes::{pack_loosely, random_cut, random_plan};
 use reference::spoil::{spoil, spoil_sections};
 use reference::stretches::{ENTRY_WORDS, HOUSE_THRESHOLD};
@@ -67,9 +67,16 @@ fn runs(n: &mut Numbers) {
             }
         }
     };
-    let bins = reference::runs::runs(&octets, v).map_or(0, |runs| runs.iter().fold(0u128, |sum, run| sum.saturating_add(run.length)));
-    let bins = usize::try_from(bins).unwrap_or(usize::MAX);
-    let wanted = if n.once_in(3) { argument(bins.min(MOST_LEVELS), n) } else { bins };
+    let levels = |octets: &[u8]| levels_of(&reference::runs::runs(octets, v).unwrap_or_default());
+    let bins = usize::try_from(levels(&octets)).unwrap_or(usize::MAX);
+    let wanted = match n.below(6) {
+        0 | 1 => argument(bins.min(MOST_LEVELS), n),
+        // passed behind some of the octets
+        2 => levels(&octets[..n.below(octets.len() + 1)]).min(MOST_LEVELS as u128) as usize,
+        // too few
+        3 => bins.saturating_add(n.within(1, 9)),
+        _ => bins,
+    };
     let _ = run_check(&octets, v, wanted);
     let _ = run_read(&octets, v, wanted, room(wanted.min(5000), n));
     let (len, high, longest) = (n.below(600), n.octet(), n.one_of(&[1, 3, 80, 600]));
@@ -92,7 +99,12 @@ fn file(n: &mut Numbers) -> Vec<u8> {
         }
         _ => {
             let (bins, rays) = n.one_of(&[(1, 1), (6, 4), (30, 10), (1, 30), (50, 1)]);
-            random_plan(4, bins, rays, n)
+            // the octets that a spoiling changes are seldom those of section 7
+            if n.once_in(3) {
+                random_unchecked_plan(4, bins, rays, n)
+            } else {
+                random_plan(4, bins, rays, n)
+            }
         }
     };
     if n.once_in(10) {
