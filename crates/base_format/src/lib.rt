@@ -13,13 +13,12 @@ ghost use mathlib.Core.Path.{_≡_};
 ghost use Prim.Native.Nat.{_+_, _≤_};
 ghost use lib.ListN.{length};
 ghost use Rattle.rules.specs.Fields.{lengthAt, pointsAt};
-ghost use Rattle.scan.specs.Inner.{scanned};
 ghost use Rattle.values.specs.Table.{tableRight};
 ghost use Rattle.sections.specs.Verdict.{firstFault};
 ghost use Rattle.rules.specs.Rules.{meets, meetsAll, within, magnitude, either};
 ghost use Rattle.base_format.specs.Rules.{rules3, rules4, rules5};
 ghost use Rattle.base_format.specs.Fields.{siteAt, greatestAt, countAt};
-ghost use Rattle.base_format.specs.Parts.{productOf, productNumber, tableAt, dataAt, productIn};
+ghost use Rattle.base_format.specs.Parts.{productOf, productNumber, tableAt, productIn};
 ghost use Rattle.base_format.specs.Checks.{checks3, checks4, checks5, pastLength5, checks7, baseChecks, anyDataChecks7};
 
 fn wide16(x: u16) -> u32
@@ -117,7 +116,7 @@ pub fn product_in(s: &[u8], c: Cut) -> Product
     product_of(rules::parameter_at(s, c.section4))
 }
 
-// The value table of the section 5 at a place, and the data of the section 7 at a place, which lie within the file.
+// The value table of the section 5 at a place, which lies within the file.
 
 fn table_at(s: &[u8], at: usize, product: Product) -> bool
     requires { ⌜ (17 ≤ lengthAt (now s) at) × (at + lengthAt (now s) at ≤ length (now s)) ⌝ }
@@ -126,16 +125,6 @@ fn table_at(s: &[u8], at: usize, product: Product) -> bool
     let from = at + 17;
     let to = sections::end_at(s, at);
     values::table_right(&s[from..to], product)
-}
-
-fn data_at(s: &[u8], at: usize, v: u8, bins: usize) -> Scan
-    requires { ⌜ (5 ≤ lengthAt (now s) at) × (at + lengthAt (now s) at ≤ length (now s)) ⌝ }
-    requires { ⌜ (v ≤ 253) × (bins ≤ 2097152) ⌝ }
-    ensures { λ r. ⌜ r ≡ scanned v bins (dataAt (now (s .entry)) at) ⌝ }
-{
-    let from = at + 5;
-    let to = sections::end_at(s, at);
-    scan::scan_runs(&s[from..to], v, bins)
 }
 
 // Each kind of section.
@@ -215,7 +204,7 @@ fn judge5(s: &[u8], x: Context, at: usize) -> Judged
     }
 }
 
-// The checks before it have held the bins and V to what a scan takes. The place of 8 is the octet at fault, and the data is the section's from its sixth octet on.
+// The checks before it have held the bins and V to what a scan takes. The data is the section's octets from the sixth on, and the place of 8 is the octet at fault.
 pub fn judge7(s: &[u8], x: Context, at: usize) -> Judged
     requires { ⌜ at + lengthAt (now s) at ≤ length (now s) ⌝ }
     requires { ⌜ (pointsAt (now s) (x .section3) ≤ 2097152) × (greatestAt (now s) (x .section5) ≤ 252) ⌝ }
@@ -227,9 +216,11 @@ pub fn judge7(s: &[u8], x: Context, at: usize) -> Judged
     }
     let v = greatest_at(s, x.section5) as u8;
     let bins = rules::points_at(s, x.section3) as usize;
-    match data_at(s, at, v, bins) {
+    let from = at + 5;
+    let to = at + len as usize;
+    match scan::scan_runs(&s[from..to], v, bins) {
         Scan::Exact => Judged::Accepted,
-        Scan::Off(i) => sections::refused(Why::Data, at + 5 + i),
+        Scan::Off(i) => sections::refused(Why::Data, from + i),
     }
 }
 

@@ -31,7 +31,7 @@ pub record Exactly (v n : ℕ) (s : List ℕ) : Type 0 where
 pub data AtFault (v n : ℕ) (s : List ℕ) : ℕ → Type 0 where
   -- "the first data octet if it is above V"
   above : {o : ℕ} {t : List ℕ} → s ≡ o ∷ t → v < o → AtFault v n s 0
-  -- "the level or digit octet at which the bins are first passed": the first i + 1 octets stand for more than n, and no fewer do
+  -- "the level or digit octet at which the bins are first passed": the first i + 1 octets stand for more than n levels, and no fewer octets do
   passed : {i m : ℕ} → Exactly v m (take (i + 1) s) → n < m → ((j k : ℕ) → j < i → Exactly v k (take (j + 1) s) → k ≤ n) → AtFault v n s i
   -- "one past the data if there are too few"
   too-few : {m : ℕ} → Exactly v m s → m < n → AtFault v n s (length s)

@@ -1,5 +1,5 @@
--- FORMAT.md, "Refusals": the number of each refusal. A refusal is why and where: "place is the start of the section
--- concerned", and 0 where none is.
+-- FORMAT.md, "Refusals": the number of each refusal. A refusal is why and where: "the place is the start of the section
+-- concerned, and for 8 that of the octet at fault"; 0 where no section is concerned.
 use Prim.Native.Nat.{ℕ}
 use Rattle.sections.specs.declared.Refusal.{Refusal}
 use Rattle.sections.specs.declared.Why.{Why}

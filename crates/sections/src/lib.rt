@@ -44,7 +44,7 @@ pub enum Why {
     Unread,
 }
 
-// A refusal: why, and the start of the section concerned, 0 where none is.
+// A refusal: why, and where: the start of the section concerned, for 8 the octet at fault, 0 where no section is concerned.
 pub struct Refusal {
     pub why: Why,
     pub place: usize,

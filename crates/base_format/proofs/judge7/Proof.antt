@@ -12,10 +12,10 @@ use Rattle.base_format.specs.Fields.{greatestAt}
 use borrow.Author.Tests.{lt-leb, le-leb}
 use denote.Ref.{now}
 use native.Mathlib.Omega.{arith}
-use Prim.Native.Nat.{ℕ, _+_, _<_, _≤_}
+use Prim.Native.Nat.{ℕ, _+_, _-_, _<_, _≤_}
 use mathlib.Core.Path.{_≡_, sym, ap, _∙_}
 use mathlib.Core.Bool.{false}
-use lib.ListN.{length}
+use lib.ListN.{length, take, drop}
 use borrow.Author.Needs.{needs}
 use Rattle.base_format.proofs.judge7.Statement.{statement}
 use Rattle.base_format.proofs.judge7.Tie as tie
@@ -34,29 +34,37 @@ low c = omega (arith, c .greatest-at .ensures, c .before .before .before .before
 cast-v : tie.Need-cast-v
 cast-v c = let v = low c in omega arith
 
-data-at-requires : tie.Need-data-at-requires
+-- the data lies in the file, from its sixth octet on
+long : (c : tie.After-points-at) → let a = c .before .before .before .before .before .args in 6 ≤ lengthAt (now (a .s)) (a .at)
 unfolding lengthAt
-data-at-requires c κs = let s = c .before .before .before .before .before in
-    let a = s .args in
-    let long : 5 ≤ lengthAt (now (a .s)) (a .at) = omega (arith, c .before .before .before .length-at .ensures) in
-    let v = low (c .before) in
-    ((long, s .pre .0), (omega arith, omega (arith, c .points-at .ensures, s .pre .1 .0)))
+long c = omega (arith, c .before .before .before .length-at .ensures)
+
+ends : (c : tie.After-points-at) → let s = c .before .before .before .before .before in s .args .at + c .before .before .before .length-at .result ≤ length (now (s .args .s))
+unfolding lengthAt
+ends c = omega (arith, c .before .before .before .length-at .ensures, c .before .before .before .before .before .pre .0)
+
+add-from : tie.Need-add-from
+add-from c = let e = ends c in record { fits = omega arith }
+
+add-to : tie.Need-add-to
+add-to c = let e = ends c in record { fits = omega arith }
+
+scan-runs-requires : tie.Need-scan-runs-requires
+scan-runs-requires c κs = let v = low (c .before .before) in
+    (omega arith, omega (arith, c .before .points-at .ensures, c .before .before .before .before .before .before .pre .1 .0))
 
 -- what the scan finds, by the fields of the file
-judged : (c : tie.After-data-at) → let a = c .before .before .before .before .before .before .args in
-    c .data-at .result ≡ scanned (greatestAt (now (a .s)) (a .x .section5)) (pointsAt (now (a .s)) (a .x .section3)) (dataAt (now (a .s)) (a .at))
-unfolding greatestAt
-judged c = let a = c .before .before .before .before .before .before .args in
-    let v = c .before .before .greatest-at .ensures in
-    let bins = c .before .points-at .ensures in
-    c .data-at .ensures ∙ (λ i. scanned (v i) (bins i) (dataAt (now (a .s)) (a .at)))
-
-long : (c : tie.After-data-at) → let a = c .before .before .before .before .before .before .args in 6 ≤ lengthAt (now (a .s)) (a .at)
-unfolding lengthAt
-long c = omega (arith, c .before .before .before .before .length-at .ensures)
+judged : (c : tie.After-scan-runs) → let a = c .before .before .before .before .before .before .before .args in
+    c .scan-runs .result ≡ scanned (greatestAt (now (a .s)) (a .x .section5)) (pointsAt (now (a .s)) (a .x .section3)) (dataAt (now (a .s)) (a .at))
+unfolding greatestAt dataAt lengthAt
+judged c = let a = c .before .before .before .before .before .before .before .args in
+    let v = c .before .before .before .greatest-at .ensures in
+    let bins = c .before .before .points-at .ensures in
+    let span : a .at + c .before .before .before .before .before .length-at .result - (a .at + 5) ≡ lengthAt (now (a .s)) (a .at) - 5 = omega (arith, c .before .before .before .before .before .length-at .ensures) in
+    c .scan-runs .ensures ∙ (λ i. scanned (v i) (bins i) (take (span i) (drop (a .at + 5) (now (a .s)))))
 
 -- where it finds an octet at fault
-off : (c : tie.After-i) → let a = c .before .before .before .before .before .before .before .before .args in
+off : (c : tie.After-i) → let a = c .before .before .before .before .before .before .before .before .before .args in
     let v = greatestAt (now (a .s)) (a .x .section5) in
     let bins = pointsAt (now (a .s)) (a .x .section3) in
     let octets = dataAt (now (a .s)) (a .at) in
@@ -64,30 +72,28 @@ off : (c : tie.After-i) → let a = c .before .before .before .before .before .b
 off c = missed _ _ _ (sym (c .i .given .1) ∙ judged (c .before .before))
 
 -- its place lies in the file, or is its end
-fits : (c : tie.After-i) → let a = c .before .before .before .before .before .before .before .before .args in a .at + 5 + c .i .given .0 .0 ≤ length (now (a .s))
-fits c = let s = c .before .before .before .before .before .before .before .before in
+add-refused : tie.Need-add-refused
+add-refused c = let s = c .before .before .before .before .before .before .before .before .before .before in
     let a = s .args in
-    let l = long (c .before .before) in
+    let l = long (c .before .before .before .before .before) in
     let upto = fault-upto (now (a .s)) (a .x) (a .at) (omega arith) (s .pre .0) in
-    omega (arith, off c .1, s .pre .0)
-
-add-refused-2 : tie.Need-add-refused-2
-add-refused-2 c = let f = fits (c .before) in record { fits = omega arith }
+    record { fits = omega (arith, off (c .before) .1, s .pre .0) }
 
 returns-2 : tie.Need-returns-2
-returns-2 c = let a = c .before .before .before .before .before .before .before .before .args in
+returns-2 c = let a = c .before .before .before .before .before .before .before .before .before .args in
     let v = greatestAt (now (a .s)) (a .x .section5) in
     let bins = pointsAt (now (a .s)) (a .x .section3) in
     let octets = dataAt (now (a .s)) (a .at) in
     let exact = told (gives v bins octets) (faultAt v bins octets) (sym (c .enum-told .given .1) ∙ judged (c .before .before)) in
-    rw (le-leb 6 _ (long (c .before .before)), exact)
+    rw (le-leb 6 _ (long (c .before .before .before .before)), exact)
 
 returns-3 : tie.Need-returns-3
 returns-3 c = let o = off (c .before .before) in
-    let a = c .before .before .before .before .before .before .before .before .before .before .args in
-    rw (le-leb 6 _ (long (c .before .before .before .before)), o .0) (c .refused2 .ensures ∙ ap (λ (i : ℕ). Refused (refuse Data (a .at + 5 + i))) (o .1))
+    let a = c .before .before .before .before .before .before .before .before .before .before .before .args in
+    rw (le-leb 6 _ (long (c .before .before .before .before .before .before)), o .0) (c .refused2 .ensures ∙ ap (λ (i : ℕ). Refused (refuse Data (a .at + 5 + i))) (o .1))
 
 pub judge7-spec : {M : Type 1} → statement M
 judge7-spec =
     tie.close (tie.spec (λ c κs. search needs) (λ c κs. search needs) returns (λ c κs. search needs) cast-v
-    (λ c κs. search needs) data-at-requires (λ c. search needs) (λ c. search needs) (λ c. search needs) add-refused-2 (λ c κs. search needs) returns-2 returns-3)
+    (λ c κs. search needs) add-from (λ c. search needs) add-to (λ c. search needs) (λ c. search needs) (λ c. search needs) scan-runs-requires
+    (λ c. search needs) (λ c. search needs) add-refused (λ c κs. search needs) returns-2 returns-3)
