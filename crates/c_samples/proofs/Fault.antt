@@ -4,10 +4,10 @@ use mathlib.Core.Path.{_≡_, refl, sym, ap, subst, _∙_}
 use mathlib.Core.List.{List}
 use native.Mathlib.Omega.{arith}
 use lib.ListN.{length}
-use Rattle.runs.specs.Run.{levels, faultAt}
+use Rattle.runs.specs.Run.{levels}
 use Rattle.runs.specs.Runs.{AtFault}
 use Rattle.runs.proofs.Fault.{fault-inside, fault-only}
-use Rattle.bare.specs.Read.{readAnswer, readOut, ReadPromise, checkAnswer, CheckPromise}
+use Rattle.bare.specs.Read.{readAnswer, readOut, ReadPromise, checkAnswer}
 use Rattle.bare.specs.Reasons.{ReadReason, CheckReason}
 use Rattle.bare.specs.declared.ReadRefusal.the-variants as F
 use Rattle.bare.specs.declared.RunRead.{RunRead}

@@ -17,7 +17,7 @@ use Rattle.runs.proofs.Fault.{gives-fault, fault-gives, fault-only}
 use Rattle.sections.specs.Refusal.{numberOf, refuse}
 use Rattle.sections.specs.Checks.{Check, check, framed, roomForCut, closes, checks1, checks6, sectionChecks, checksAt}
 use Rattle.sections.specs.History.{Seen, lastSeen, contextOf}
-use Rattle.sections.specs.Refused.{FirstFails, this, later, Passed, RightSize, RefusedBy, size, head, section}
+use Rattle.sections.specs.Refused.{FirstFails, this, later, RightSize, RefusedBy, size, head, section}
 use Rattle.sections.specs.Verdict.{endOf}
 use Rattle.sections.specs.declared.Context.{Context}
 use Rattle.sections.specs.declared.Refusal.{Refusal}

@@ -1,14 +1,13 @@
 -- NO 12. A refusal of a file has no such number. And nothing is lost by that: where a section 7 is judged, run read and run check, asked about the same data, V and bins,
 -- never answer 12 (V over 253), and run check refuses by 8 exactly where the section's own checks do, at the same octet. The idea: the sections 3 and 5 last seen have passed, and hold the bins
 -- and V (base_format `Held.antt`).
-use Prim.Native.Nat.{ℕ, _+_, _≤_, _<_}
+use Prim.Native.Nat.{ℕ, _+_, _≤_}
 use mathlib.Core.Path.{_≡_, refl, sym, ap, subst, _∙_}
 use mathlib.Core.Logic.{_↔_}
 use mathlib.Core.List.{List}
 use mathlib.Core.Bool.{Bool, true, false}
 use native.Mathlib.Omega.{arith}
 use borrow.Author.Tests.{le-leb}
-use lib.Dec.{leb}
 use lib.ListN.{length}
 use Rattle.rules.specs.Fields.{lengthAt, numberAt, pointsAt}
 use Rattle.runs.specs.Run.{gives, faultAt}

@@ -1,7 +1,7 @@
 -- How far a forward pass comes before the bins are passed: the octets up to there give no more than is left, and with the next one they give more. So it stands at the octet at fault.
 use Prim.Native.Nat.{ℕ, zero, suc, _+_, _-_, _*_, _≤_, _<_}
 use mathlib.Core.Path.{_≡_, refl, sym, ap, _∙_, subst}
-use mathlib.Core.Bool.{Bool, true, false, cond}
+use mathlib.Core.Bool.{true, false, cond}
 use mathlib.Core.List.{List, [], _∷_}
 use native.Mathlib.Nat.{zero-mul}
 use native.Mathlib.Numerals.{add-one}
@@ -11,7 +11,7 @@ use lib.Dec.{leb, ltb}
 use borrow.Author.Tests.{le-leb, lt-leb, le-ltb, lt-ltb}
 use Rattle.octets.proofs.Orders.{by-order}
 use Rattle.runs.specs.Run.{base, levels, opens, passedFrom, faultAt}
-use Rattle.runs.proofs.Bins.{rest, rest-nil, rest-open, rest-digit, rest-right, rest-bins}
+use Rattle.runs.proofs.Bins.{rest, rest-nil, rest-open, rest-digit, rest-bins}
 
 -- in a run whose next digit has the weight w
 unfoldable pub reach : ℕ → ℕ → ℕ → List ℕ → ℕ

@@ -1,6 +1,6 @@
 -- The place of a refusal lies in the file, or is its end: each check names a place of the section at hand, or its end, and that section lies in the file.
 use Prim.Native.Nat.{ℕ, _+_, _≤_}
-use mathlib.Core.Path.{_≡_, refl}
+use mathlib.Core.Path.{_≡_}
 use mathlib.Core.List.{List, [], _∷_}
 use mathlib.Core.Bool.{Bool, true, false, cond}
 use native.Mathlib.Omega.{arith}
