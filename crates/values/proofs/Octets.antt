@@ -8,8 +8,8 @@ use native.Mathlib.Numerals.{add-one}
 use native.Mathlib.Omega.{arith}
 use lib.Dec.{eqb, ltb}
 use lib.IntN.{ℤ, pos}
-use lib.ListN.{length, getD, drop, drop-of-length-le}
-use lib.Seq.{drop-cons}
+use lib.ListN.{length, getD, take, drop, drop-of-length-le}
+use lib.Seq.{drop-cons, getD-drop}
 use borrow.Author.Tests.{eq-eqb, ne-eqb, eqb-true, eqb-false, ltb-true}
 use Rattle.octets.specs.Octets.{same}
 use Rattle.octets.proofs.Same.{same-eq, same-refl}
@@ -83,6 +83,33 @@ pub no-pair : (xs : List ℕ) (zs : List ℤ) (i : ℕ) → length zs ≤ i → 
 unfolding same octetsOf
 no-pair xs zs i h e =
     ap (λ ys. same ys (octetsOf (drop i zs))) (drop-of-length-le xs {i = 2 * i} (omega arith)) ∙ ap (λ ws. same [] (octetsOf ws)) (drop-of-length-le zs h)
+
+-- ---- in two parts, of n octets and k values first
+pub in-parts : (k n : ℕ) (xs : List ℕ) (zs : List ℤ) → n ≡ 2 * k → n ≤ length xs → k ≤ length zs
+    → same xs (octetsOf zs) ≡ same (take n xs) (octetsOf (take k zs)) && same (drop n xs) (octetsOf (drop k zs))
+unfolding same octetsOf
+in-parts zero zero xs zs e h g = refl
+in-parts zero (suc n) xs zs e h g = absurd (omega arith)
+in-parts (suc k) zero xs zs e h g = absurd (omega arith)
+in-parts (suc k) (suc zero) xs zs e h g = absurd (omega arith)
+in-parts (suc k) (suc (suc n)) [] zs e h g = absurd (omega arith)
+in-parts (suc k) (suc (suc n)) (h ∷ []) zs e i g = absurd (omega arith)
+in-parts (suc k) (suc (suc n)) (h ∷ l ∷ xs) [] e i g = absurd (omega arith)
+in-parts (suc k) (suc (suc n)) (h ∷ l ∷ xs) (z ∷ zs) e i g =
+    pair-rest xs zs h l z
+    ∙ ap (λ (b : Bool). pairRight h l z && b) (in-parts k n xs zs (omega arith) (omega arith) (omega arith))
+    ∙ and-assoc (pairRight h l z) (same (take n xs) (octetsOf (take k zs))) (same (drop n xs) (octetsOf (drop k zs)))
+    ∙ ap (λ (b : Bool). b && same (drop n xs) (octetsOf (drop k zs))) (sym (pair-rest (take n xs) (take k zs) h l z))
+
+pub writable-front : (n : ℕ) (zs : List ℤ) → InTwoOctets zs → InTwoOctets (take n zs)
+unfolding signMagnitude
+writable-front zero zs w k = omega arith
+writable-front (suc n) [] w k = omega arith
+writable-front (suc n) (z ∷ zs) w zero = w 0
+writable-front (suc n) (z ∷ zs) w (suc k) = writable-front n zs (λ j. w (suc j)) k
+
+pub writable-back : (n : ℕ) (zs : List ℤ) → InTwoOctets zs → InTwoOctets (drop n zs)
+writable-back n zs w k = rw (getD-drop n zs k (pos 0)) (w (n + k))
 
 -- ---- every published value has a form in 16 bits: computed over each table
 abbrev writableAll : List ℤ → Bool
