@@ -127,44 +127,45 @@ fn table_at(s: &[u8], at: usize, product: Product) -> bool
     values::table_right(&s[from..to], product)
 }
 
-// Each kind of section.
+// Each kind of section: the length first, then the fields, which are read in the part of the file that they stand in. In a part of a known length no
+// field needs a test of its own.
 
 fn judge3(s: &[u8], at: usize) -> Judged
+    requires { ⌜ at + lengthAt (now s) at ≤ length (now s) ⌝ }
     ensures { λ r. ⌜ r ≡ firstFault (checks3 (now (s .entry)) at) ⌝ }
 {
-    let len = rules::length_at(s, at);
-    let said = rules::wide(rules::field32(s, at, 7));
-    let due = rules::points_at(s, at);
+    if rules::length_at(s, at) != 41 {
+        return sections::refused(Why::SectionLength, at);
+    }
+    let to = at + 41;
+    let part = &s[at..to];
+    let said = rules::wide(rules::field32(part, 0, 7));
+    let due = rules::points_at(part, 0);
     sections::check(
-        len == 41,
-        Why::SectionLength,
+        fields3(part, 0),
+        Why::Field,
         at,
-        sections::check(
-            fields3(s, at),
-            Why::Field,
-            at,
-            sections::check(said == due, Why::Points, at, sections::accepted()),
-        ),
+        sections::check(said == due, Why::Points, at, sections::accepted()),
     )
 }
 
 fn judge4(s: &[u8], x: Context, at: usize) -> Judged
+    requires { ⌜ at + lengthAt (now s) at ≤ length (now s) ⌝ }
     ensures { λ r. ⌜ r ≡ firstFault (checks4 (now (s .entry)) x at) ⌝ }
 {
     let len = rules::wide(rules::length_at(s, at));
     let due = 60 + 4 * rules::wide(rules::rays_at(s, x.section3));
+    if len != due {
+        return sections::refused(Why::SectionLength, at);
+    }
     let parameter = rules::parameter_at(s, x.first);
     let site = site_at(s, x.first);
+    let to = at + 60;
     sections::check(
-        len == due,
-        Why::SectionLength,
+        fields4(&s[at..to], 0, parameter, site),
+        Why::Field,
         at,
-        sections::check(
-            fields4(s, at, parameter, site),
-            Why::Field,
-            at,
-            sections::accepted(),
-        ),
+        sections::accepted(),
     )
 }
 
@@ -173,13 +174,15 @@ fn judge5_fields(s: &[u8], x: Context, at: usize) -> Judged
     requires { ⌜ (17 ≤ lengthAt (now s) at) × (at + lengthAt (now s) at ≤ length (now s)) ⌝ }
     ensures { λ r. ⌜ r ≡ firstFault (pastLength5 (now (s .entry)) x at) ⌝ }
 {
+    let to = at + 17;
+    let part = &s[at..to];
     let product = product_of(rules::parameter_at(s, x.section4));
-    let said = rules::wide(rules::field32(s, at, 6));
+    let said = rules::wide(rules::field32(part, 0, 6));
     let points = rules::points_at(s, x.section3);
     let m = values::level_count(product) as u16;
     let table = table_at(s, at, product);
     sections::check(
-        fields5(s, at, m),
+        fields5(part, 0, m),
         Why::Field,
         at,
         sections::check(

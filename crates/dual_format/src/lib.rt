@@ -9,9 +9,10 @@ use sections::Judged;
 use sections::Why;
 ghost use mathlib.Core.Path.{_≡_};
 ghost use mathlib.Core.Bool.{_&&_};
-ghost use Prim.Native.Nat.{_≤_};
+ghost use Prim.Native.Nat.{_+_, _≤_};
+ghost use lib.ListN.{length};
 ghost use Rattle.rules.specs.Rules.{meets, meetsAll};
-ghost use Rattle.rules.specs.Fields.{raysAt, pointsAt};
+ghost use Rattle.rules.specs.Fields.{lengthAt, pointsAt};
 ghost use Rattle.scaled.specs.Scaled.{finiteSingle};
 ghost use Rattle.sections.specs.Verdict.{firstFault};
 ghost use Rattle.dual_format.specs.Rules.{rules3, scanRules, rules4, rules5, widthRule};
@@ -112,12 +113,11 @@ fn wide8(x: u8) -> u64
 }
 
 // A section of n octets with two lists, each there where its flag, in octet k or l, is 1.
-fn with_lists(s: &[u8], section3: usize, at: usize, n: u8, k: u8, l: u8) -> u64
-    ensures { λ r. ⌜ r ≡ withLists n k l (now (s .entry)) at (raysAt (now (s .entry)) section3) ⌝ }
+fn with_lists(s: &[u8], at: usize, n: u8, k: u8, l: u8, rays: u32) -> u64
+    ensures { λ r. ⌜ r ≡ withLists n k l (now (s .entry)) at rays ⌝ }
 {
     let flags = wide8(rules::field8(s, at, k)) + wide8(rules::field8(s, at, l));
-    let rays = rules::wide(rules::rays_at(s, section3));
-    wide8(n) + 2 * flags * rays
+    wide8(n) + 2 * flags * rules::wide(rays)
 }
 
 fn length7_at(s: &[u8], section3: usize, section5: usize) -> u64
@@ -127,17 +127,24 @@ fn length7_at(s: &[u8], section3: usize, section5: usize) -> u64
     5 + rules::points_at(s, section3) * wide8(width_at(s, section5)) / 8
 }
 
-// Each kind of section.
+// Each kind of section: first whether it is long enough, then its fields, which are read in the part of the file that they stand in. In a part of a
+// known length no field needs a test of its own.
 
 fn judge3(s: &[u8], at: usize) -> Judged
+    requires { ⌜ at + lengthAt (now s) at ≤ length (now s) ⌝ }
     ensures { λ r. ⌜ r ≡ firstFault (checks3 (now (s .entry)) at) ⌝ }
 {
     let len = rules::wide(rules::length_at(s, at));
-    let due = with_lists(s, at, at, 58, 53, 54);
-    let fields = fields3(s, at);
-    let scan = scan_fields(s, at);
-    let said = rules::wide(rules::field32(s, at, 7));
-    let points = rules::points_at(s, at);
+    if len < 58 {
+        return sections::refused(Why::SectionLength, at);
+    }
+    let to = at + 58;
+    let part = &s[at..to];
+    let due = with_lists(part, 0, 58, 53, 54, rules::rays_at(part, 0));
+    let fields = fields3(part, 0);
+    let scan = scan_fields(part, 0);
+    let said = rules::wide(rules::field32(part, 0, 7));
+    let points = rules::points_at(part, 0);
     let last = sections::check(said == points, Why::Points, at, sections::accepted());
     let past5 = sections::check(scan, Why::Unread, at, last);
     let past4 = sections::check(fields, Why::Field, at, past5);
@@ -145,29 +152,39 @@ fn judge3(s: &[u8], at: usize) -> Judged
 }
 
 fn judge4(s: &[u8], x: Context, at: usize) -> Judged
+    requires { ⌜ at + lengthAt (now s) at ≤ length (now s) ⌝ }
     ensures { λ r. ⌜ r ≡ firstFault (checks4 (now (s .entry)) x at) ⌝ }
 {
     let len = rules::wide(rules::length_at(s, at));
-    let due = with_lists(s, x.section3, at, 61, 56, 57);
+    if len < 61 {
+        return sections::refused(Why::SectionLength, at);
+    }
+    let to = at + 61;
+    let part = &s[at..to];
+    let due = with_lists(part, 0, 61, 56, 57, rules::rays_at(s, x.section3));
     let parameter = rules::parameter_at(s, x.first);
     let site = site_at(s, x.first);
-    let fields = fields4(s, at, parameter, site);
+    let fields = fields4(part, 0, parameter, site);
     let past4 = sections::check(fields, Why::Field, at, sections::accepted());
     sections::check(due <= len, Why::SectionLength, at, past4)
 }
 
 fn judge5(s: &[u8], x: Context, at: usize) -> Judged
+    requires { ⌜ at + lengthAt (now s) at ≤ length (now s) ⌝ }
     ensures { λ r. ⌜ r ≡ firstFault (checks5 (now (s .entry)) x at) ⌝ }
 {
-    let len = rules::length_at(s, at);
-    let named = fields5(s, at);
-    let packing = packing_ok(s, at);
-    let said = rules::wide(rules::field32(s, at, 6));
+    if rules::length_at(s, at) != 21 {
+        return sections::refused(Why::SectionLength, at);
+    }
+    let to = at + 21;
+    let part = &s[at..to];
+    let named = fields5(part, 0);
+    let packing = packing_ok(part, 0);
+    let said = rules::wide(rules::field32(part, 0, 6));
     let points = rules::points_at(s, x.section3);
     let last = sections::check(said == points, Why::Points, at, sections::accepted());
     let past5 = sections::check(packing, Why::Unread, at, last);
-    let past4 = sections::check(named, Why::Field, at, past5);
-    sections::check(len == 21, Why::SectionLength, at, past4)
+    sections::check(named, Why::Field, at, past5)
 }
 
 pub fn judge7(s: &[u8], x: Context, at: usize) -> Judged
@@ -181,6 +198,7 @@ pub fn judge7(s: &[u8], x: Context, at: usize) -> Judged
 
 // The checks of a section of the format's own other than a 7, which has its function above.
 pub fn judge(s: &[u8], x: Context, at: usize, n: u8) -> Judged
+    requires { ⌜ at + lengthAt (now s) at ≤ length (now s) ⌝ }
     requires { ⌜ (n ≡ 7 → ⊥) ⌝ }
     ensures { λ r. ⌜ r ≡ firstFault (dualChecks (now (s .entry)) x at n) ⌝ }
 {

@@ -1,15 +1,17 @@
 -- The transport law: what a section says is read from its own octets, wherever they lie.
-use Prim.Native.Nat.{ℕ, _+_, _-_, _%_, _≤_}
-use mathlib.Core.Path.{_≡_, refl, _∙_, ap}
+use Prim.Native.Nat.{ℕ, _+_, _*_, _-_, _%_, _≤_}
+use mathlib.Core.Path.{_≡_, refl, sym, _∙_, ap}
 use mathlib.Core.List.{List, [], _∷_}
 use mathlib.Core.Bool.{Bool, true, _&&_}
 use native.Mathlib.Omega.{arith}
 use borrow.Author.Tests.{leb-true}
 use lib.Dec.{leb}
-use lib.ListN.{length}
+use lib.ListN.{length, take, drop, length-drop, take-append-drop}
+use lib.Seq.{length-take-le}
 use Rattle.octets.specs.Octets.{be, signBit}
 use Rattle.octets.proofs.Lies.{Lies, be-same}
 use Rattle.rules.specs.Rules.{Rule, within, magnitude, either, field, meets, meetsAll}
+use Rattle.rules.specs.Fields.{binsAt, raysAt, pointsAt}
 use Rattle.rules.proofs.Chains.{and-true-both}
 
 pub field-same : (s : List ℕ) (at : ℕ) (o : List ℕ) → Lies s at o → (k w : ℕ) → 1 ≤ k → k + w ≤ length o + 1 → field s at k w ≡ field o 0 k w
@@ -51,3 +53,29 @@ module _ (s : List ℕ) (at : ℕ) (o : List ℕ) (h : Lies s at o) (n : ℕ) (l
   rules-same (r ∷ rs) e =
       let p = and-true-both (reaches n r) (reachAll n rs) e in
       rw (meets-same r (p .0), rules-same rs (p .1))
+
+-- and from the part of the file that begins with it
+module _ (s : List ℕ) (at to : ℕ) (inside : to ≤ length s) where
+  part-lies : Lies s at (take (to - at) (drop at s))
+  part-lies = record { after = drop (to - at) (drop at s); from = sym (take-append-drop (to - at) (drop at s)) }
+
+  part-length : length (take (to - at) (drop at s)) ≡ to - at
+  part-length = length-take-le (to - at) (drop at s) (omega (arith, length-drop at s))
+
+  pub part-field : (k w : ℕ) → 1 ≤ k → at + k + w ≤ to + 1 → field (take (to - at) (drop at s)) 0 k w ≡ field s at k w
+  part-field k w one le = sym (field-same s at (take (to - at) (drop at s)) part-lies k w one (omega (arith, part-length)))
+
+  pub part-rays : at + 22 ≤ to → raysAt (take (to - at) (drop at s)) 0 ≡ raysAt s at
+  unfolding raysAt
+  part-rays le = part-field 19 4 (omega arith) (omega arith)
+
+  pub part-points : at + 22 ≤ to → pointsAt (take (to - at) (drop at s)) 0 ≡ pointsAt s at
+  unfolding pointsAt binsAt
+  part-points le = let nb = part-field 15 4 (omega arith) (omega arith) in
+      λ i. nb i * part-rays le i
+
+  pub part-meets : (n : ℕ) → at + n ≤ to → (r : Rule) → reaches n r ≡ true → meets (take (to - at) (drop at s)) 0 r ≡ meets s at r
+  part-meets n le r e = sym (meets-same s at (take (to - at) (drop at s)) part-lies n (omega (arith, part-length)) r e)
+
+  pub part-rules : (n : ℕ) → at + n ≤ to → (rs : List Rule) → reachAll n rs ≡ true → meetsAll (take (to - at) (drop at s)) 0 rs ≡ meetsAll s at rs
+  part-rules n le rs e = sym (rules-same s at (take (to - at) (drop at s)) part-lies n (omega (arith, part-length)) rs e)

@@ -6,7 +6,8 @@
 // specs/Accepted.antt and specs/Refused.antt, for every format whose checks say what it says.
 ghost use mathlib.Core.Path.{_≡_};
 ghost use mathlib.Core.Bool.{cond};
-ghost use Prim.Native.Nat.{_+_};
+ghost use Prim.Native.Nat.{_+_, _≤_};
+ghost use lib.ListN.{length};
 ghost use lib.Dec.{leb};
 ghost use Rattle.rules.specs.Fields.{lengthAt};
 ghost use Rattle.sections.specs.Refusal.{numberOf, refuse};
@@ -244,12 +245,19 @@ fn may_follow(p: u8, n: u8) -> bool
     (p != 2) & (n == p + 1)
 }
 
+// The five octets that every section begins with are taken as a part of the file: what is read in a part of a known length needs no test of its own.
 pub fn is_framed(s: &[u8], end: usize, x: Context, at: usize) -> bool
+    requires { ⌜ end ≤ length (now s) ⌝ }
     ensures { λ r. ⌜ r ≡ framed (now (s .entry)) end x at ⌝ }
 {
-    let len = place(rules::length_at(s, at));
-    let n = rules::number_at(s, at);
-    ends_by(at, 5, end) & ((5 <= len) & (ends_by(at, len, end) & may_follow(x.previous, n)))
+    if ends_by(at, 5, end) {
+        let to = at + 5;
+        let head = &s[at..to];
+        let len = place(rules::length_at(head, 0));
+        let n = rules::number_at(head, 0);
+        return (5 <= len) & (ends_by(at, len, end) & may_follow(x.previous, n));
+    }
+    false
 }
 
 pub fn has_room(s: &[u8], x: Context, at: usize) -> bool
@@ -266,22 +274,28 @@ pub fn is_closed(s: &[u8], x: Context, at: usize) -> bool
     (x.previous == 7) & rules::fields8(s, at)
 }
 
-// The sections that every format has.
+// The sections that every format has: the length first, then the fields, read in the part of the file that is the section.
 
 pub fn judge1(s: &[u8], at: usize) -> Judged
+    requires { ⌜ at + lengthAt (now s) at ≤ length (now s) ⌝ }
     ensures { λ r. ⌜ r ≡ firstFault (checks1 (now (s .entry)) at) ⌝ }
 {
-    let len = rules::length_at(s, at);
-    let fields1 = rules::fields1(s, at);
-    let past = check(fields1, Why::Field, at, accepted());
-    check(len == 21, Why::SectionLength, at, past)
+    if rules::length_at(s, at) != 21 {
+        return refused(Why::SectionLength, at);
+    }
+    let to = at + 21;
+    let fields1 = rules::fields1(&s[at..to], 0);
+    check(fields1, Why::Field, at, accepted())
 }
 
 pub fn judge6(s: &[u8], at: usize) -> Judged
+    requires { ⌜ at + lengthAt (now s) at ≤ length (now s) ⌝ }
     ensures { λ r. ⌜ r ≡ firstFault (checks6 (now (s .entry)) at) ⌝ }
 {
-    let len = rules::length_at(s, at);
-    let fields6 = rules::fields6(s, at);
-    let past = check(fields6, Why::Field, at, accepted());
-    check(len == 6, Why::SectionLength, at, past)
+    if rules::length_at(s, at) != 6 {
+        return refused(Why::SectionLength, at);
+    }
+    let to = at + 6;
+    let fields6 = rules::fields6(&s[at..to], 0);
+    check(fields6, Why::Field, at, accepted())
 }

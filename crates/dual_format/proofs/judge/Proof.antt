@@ -23,7 +23,7 @@ returns-3 c = let n = c .before .before .before .before .before .args .n in
 returns-4 : tie.Need-returns-4
 unfolding dualChecks
 returns-4 c = let n = c .before .before .before .before .args .n in
-    rw (ne-eqb n 3 (c .before .before .if1 .left), ne-eqb n 4 (c .before .if2 .left), ne-eqb n 5 (c .if3 .left), ne-eqb n 7 (c .before .before .before .before .pre))
+    rw (ne-eqb n 3 (c .before .before .if1 .left), ne-eqb n 4 (c .before .if2 .left), ne-eqb n 5 (c .if3 .left), ne-eqb n 7 (c .before .before .before .before .pre .1))
 
 pub judge-spec : {M : Type 1} → statement M
 judge-spec =
