@@ -140,7 +140,7 @@ fn judge3(s: &[u8], at: usize) -> Judged
     let to = at + 41;
     let part = &s[at..to];
     let said = rules::wide(rules::field32(part, 0, 7));
-    let due = rules::points_at(part, 0);
+    let due = rules::points_of(rules::bins_at(part, 0), rules::rays_at(part, 0));
     sections::check(
         fields3(part, 0),
         Why::Field,

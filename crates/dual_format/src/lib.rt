@@ -140,11 +140,12 @@ fn judge3(s: &[u8], at: usize) -> Judged
     }
     let to = at + 58;
     let part = &s[at..to];
-    let due = with_lists(part, 0, 58, 53, 54, rules::rays_at(part, 0));
+    let rays = rules::rays_at(part, 0);
+    let due = with_lists(part, 0, 58, 53, 54, rays);
     let fields = fields3(part, 0);
     let scan = scan_fields(part, 0);
     let said = rules::wide(rules::field32(part, 0, 7));
-    let points = rules::points_at(part, 0);
+    let points = rules::points_of(rules::bins_at(part, 0), rays);
     let last = sections::check(said == points, Why::Points, at, sections::accepted());
     let past5 = sections::check(scan, Why::Unread, at, last);
     let past4 = sections::check(fields, Why::Field, at, past5);

@@ -1,7 +1,7 @@
 // The rules on a section's named fields: FORMAT.md, "Sections", each section's rules as one chain of tests without branches. Below it stands
 // `octets`; above it `sections`, which puts the sections in order, and the two formats, `base_format` and `dual_format`.
 ghost use mathlib.Core.Path.{_≡_};
-ghost use Prim.Native.Nat.{ℕ};
+ghost use Prim.Native.Nat.{ℕ, _*_};
 ghost use lib.ListN.{length};
 ghost use Rattle.octets.specs.Octets.{be};
 ghost use Rattle.rules.specs.Rules.{field, meets, meetsAll, within, magnitude, rules0, rules1, gridRules, modeRule, rules6, rules8};
@@ -178,11 +178,18 @@ pub fn parameter_at(s: &[u8], at: usize) -> u8
     field8(s, at, 11)
 }
 
+// Nb x Nr.
+pub fn points_of(nb: u32, nr: u32) -> u64
+    ensures { λ r. ⌜ r ≡ nb * nr ⌝ }
+{
+    wide(nb) * wide(nr)
+}
+
 // Nb x Nr, by the section 3 at a place.
 pub fn points_at(s: &[u8], at: usize) -> u64
     ensures { λ r. ⌜ r ≡ pointsAt (now (s .entry)) at ⌝ }
 {
-    wide(bins_at(s, at)) * wide(rays_at(s, at))
+    points_of(bins_at(s, at), rays_at(s, at))
 }
 
 pub fn wide(x: u32) -> u64

@@ -1,11 +1,11 @@
 -- First whether it is long enough, then the rest, which is read in the section's first 58 octets.
 use mathlib.Core.Path.{_≡_, refl, _∙_, ap}
-use Prim.Native.Nat.{ℕ, _+_, _≤_}
+use Prim.Native.Nat.{ℕ, _+_, _*_, _≤_}
 use native.Mathlib.Omega.{arith}
 use denote.Ref.{now}
 use lib.ListN.{length}
 use borrow.Author.Tests.{ne-eqb}
-use Rattle.rules.specs.Fields.{lengthAt, raysAt}
+use Rattle.rules.specs.Fields.{lengthAt, raysAt, pointsAt}
 use Rattle.rules.proofs.Moved.{part-field, part-rays, part-points, part-rules}
 use Rattle.dual_format.specs.Rules.{rules3, scanRules}
 use Rattle.dual_format.specs.Fields.{withLists, length3}
@@ -27,9 +27,10 @@ inside : (c : tie.Else1) → let a = c .before .before .before .before .args in 
 inside c = omega (arith, len (c .before), c .before .before .before .before .pre)
 
 returns-2 : tie.Need-returns-2
-unfolding rules3 scanRules
+unfolding rules3 scanRules pointsAt
 returns-2 c = let points = c .before .before .before .before .before in
-    let scan = points .before .before .before in
+    let said = points .before .before in
+    let scan = said .before .before in
     let lists = scan .before .before in
     let d = lists .before .before .before in
     let a = d .before .before .before .before .args in
@@ -43,8 +44,8 @@ returns-2 c = let points = c .before .before .before .before .before in
       c .before .before .check2 .ensures,
       c .before .before .before .check .ensures,
       c .before .before .before .before .accepted .ensures,
-      points .points-at .ensures ∙ part-points s (a .at) to i (omega arith),
-      points .before .wide2 .ensures ∙ points .before .before .field32 .ensures ∙ part-field s (a .at) to i 7 4 (omega arith) (omega arith),
+      points .points-of .ensures ∙ (λ j. points .before .bins-at .ensures j * lists .before .rays-at .ensures j) ∙ part-points s (a .at) to i (omega arith),
+      said .wide2 .ensures ∙ said .before .field32 .ensures ∙ part-field s (a .at) to i 7 4 (omega arith) (omega arith),
       scan .scan-fields .ensures ∙ part-rules s (a .at) to i 58 (omega arith) scanRules refl,
       scan .before .fields3 .ensures ∙ part-rules s (a .at) to i 58 (omega arith) rules3 refl,
       lists .with-lists .ensures ∙ part-lists s (a .at) to i 58 53 54 (lists .before .rays-at .result) (omega arith) (omega arith) (omega arith) (omega arith) ∙ ap (withLists 58 53 54 s (a .at)) rays,
@@ -57,4 +58,4 @@ judge3-spec =
     (λ c. search needs) (λ c. search needs) (λ c. search needs) (λ c κs. search needs) (λ c κs. search needs)
     (λ c κs. search needs) (λ c κs. search needs) (λ c κs. search needs) (λ c κs. search needs) (λ c κs. search needs)
     (λ c κs. search needs) (λ c κs. search needs) (λ c κs. search needs) (λ c κs. search needs) (λ c κs. search needs)
-    returns-2)
+    (λ c κs. search needs) returns-2)
