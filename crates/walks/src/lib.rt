@@ -143,12 +143,10 @@ fn judge_here(format: ReadAs, s: &[u8], end: usize, x: Context, at: usize) -> Ju
         if n == 7 {
             return judge7(format, s, x, at);
         }
-        return sections::check(
-            sections::has_room(s, x, at),
-            Why::CutCount,
-            at,
-            judge(format, s, x, at, n),
-        );
+        if sections::has_room(s, x, at) {
+            return judge(format, s, x, at, n);
+        }
+        return sections::refused(Why::CutCount, at);
     }
     sections::refused(Why::Frame, at)
 }

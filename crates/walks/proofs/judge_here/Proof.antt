@@ -52,20 +52,27 @@ returns-2 c = let a = c .before .before .before .before .before .before .before 
     c .judge7 .ensures ∙ seven (ownOf (a .format)) (now (a .s)) (a .end) (a .x) (a .at) (c .before .before .before .before .before .if1 .left) (sym (c .before .before .before .before .is-framed .ensures) ∙ c .before .before .before .if2 .taken) (sym (c .before .before .number-at .ensures) ∙ c .before .if3 .taken)
 
 judge-requires : tie.Need-judge-requires
-judge-requires c κs = (asked (c .before .before) .0, c .before .if3 .left)
+judge-requires c κs = (asked (c .before .before .before) .0, c .before .before .if3 .left)
 
 returns-3 : tie.Need-returns-3
 unfolding checksAt numberAt
-returns-3 c = let a = c .before .before .before .before .before .before .before .before .before .args in
-    rw (ne-eqb (a .at) (a .end) (c .before .before .before .before .before .before .before .if1 .left), sym (c .before .before .before .before .before .before .is-framed .ensures) ∙ c .before .before .before .before .before .if2 .taken, c .check2 .ensures, c .before .judge .ensures, c .before .before .has-room .ensures, c .before .before .before .before .number-at .ensures)
+returns-3 c = let number = c .before .before .before .before in
+    let a = number .before .before .before .before .before .args in
+    rw (ne-eqb (a .at) (a .end) (number .before .before .before .if1 .left), sym (number .before .before .is-framed .ensures) ∙ number .before .if2 .taken, sym (c .before .before .has-room .ensures) ∙ c .before .if4 .taken, c .judge .ensures, number .number-at .ensures)
 
 returns-4 : tie.Need-returns-4
 unfolding checksAt
-returns-4 c = let a = c .before .before .before .before .before .args in
-    rw (ne-eqb (a .at) (a .end) (c .before .before .before .if1 .left), sym (c .before .before .is-framed .ensures) ∙ c .before .if2 .left) (c .refused .ensures)
+returns-4 c = let number = c .before .before .before .before in
+    let a = number .before .before .before .before .before .args in
+    rw (ne-eqb (a .at) (a .end) (number .before .before .before .if1 .left), sym (number .before .before .is-framed .ensures) ∙ number .before .if2 .taken, sym (c .before .before .has-room .ensures) ∙ c .before .if4 .left) (c .refused .ensures)
+
+returns-5 : tie.Need-returns-5
+unfolding checksAt
+returns-5 c = let a = c .before .before .before .before .before .args in
+    rw (ne-eqb (a .at) (a .end) (c .before .before .before .if1 .left), sym (c .before .before .is-framed .ensures) ∙ c .before .if2 .left) (c .refused2 .ensures)
 
 pub judge-here-spec : {M : Type 1} → statement M
 judge-here-spec =
     tie.close (tie.spec (λ c κs. search needs) (λ c κs. search needs) (λ c κs. search needs) returns
     (λ c κs. search needs) (λ c κs. search needs) judge7-requires returns-2 (λ c κs. search needs)
-    judge-requires (λ c κs. search needs) returns-3 (λ c κs. search needs) returns-4)
+    judge-requires returns-3 (λ c κs. search needs) returns-4 (λ c κs. search needs) returns-5)
