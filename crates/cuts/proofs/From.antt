@@ -1,15 +1,16 @@
 -- Decoding from a record, said of a cut by the numbers and the data that were read.
 use Prim.Native.Nat.{ℕ, _+_, _-_, _≤_}
-use mathlib.Core.Path.{_≡_, sym, ap, _∙_}
+use mathlib.Core.Path.{_≡_, ap}
 use mathlib.Core.List.{List}
-use mathlib.Core.Bool.{Bool, true}
+use mathlib.Core.Bool.{true}
 use native.Mathlib.Omega.{arith}
 use lib.ListN.{length, take, drop}
 use Rattle.runs.specs.Run.{levels}
 use Rattle.lent.specs.Lent.{between}
 use Rattle.index.specs.declared.RayRecord.{RayRecord}
 use Rattle.index.specs.Index.{usable, fromRecord}
-use Rattle.index.proofs.Usable.{Fits, usable-fits, to-end}
+use Rattle.lent.proofs.Lent.{to-end}
+use Rattle.index.proofs.Usable.{usable-fits}
 use Rattle.values.specs.Published.{levelCount}
 use Rattle.values.specs.Inner.{Bins}
 use Rattle.values.specs.declared.Product.{Product}

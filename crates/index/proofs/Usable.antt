@@ -4,8 +4,8 @@ use mathlib.Core.Path.{_≡_, refl, sym, ap, _∙_}
 use mathlib.Core.Bool.{Bool, true, false, false≢true, _&&_}
 use mathlib.Core.List.{List}
 use native.Mathlib.Omega.{arith}
-use lib.ListN.{length, take, drop, getD, length-drop}
-use lib.Seq.{take-all, drop-drop, getD-drop}
+use lib.ListN.{length, drop, getD, length-drop}
+use lib.Seq.{drop-drop, getD-drop}
 use lib.Dec.{leb, ltb}
 use borrow.Author.Tests.{le-leb, lt-leb, lt-ltb, le-ltb, leb-true, ltb-true}
 use Rattle.runs.specs.Run.{levels, opens, runLen, digitSum}
@@ -81,9 +81,6 @@ module _ (v nb : ℕ) (s : List ℕ) (b : ℕ) where
       (λ h. usable-above v nb s here i h))
 
 -- ---- a record at an offset is one at the front of the octets from there on
-pub to-end : (s : List ℕ) (at : ℕ) → take (length s - at) (drop at s) ≡ drop at s
-to-end s at = take-all (length s - at) (drop at s) (omega (arith, length-drop at s))
-
 pub usable-from : (v nb : ℕ) (s : List ℕ) (p : RayRecord) → p .offset < length s → usable v nb (drop (p .offset) s) (record { offset = 0; before = p .before }) ≡ usable v nb s p
 usable-from v nb s p i =
     let at = p .offset in

@@ -6,7 +6,7 @@ use native.Mathlib.Nat.{add-zero}
 use native.Mathlib.Numerals.{add-one}
 use native.Mathlib.Omega.{arith}
 use lib.ListN.{length, replicate, take, drop, set, getD, take-append-drop, length-append, length-replicate, length-drop, replicate-append-replicate}
-use lib.Seq.{take-set-le, drop-set-lt, set-at, length-take-le, drop-cons, take-at, drop-at, take-add, drop-drop, drop-append-add, take-append-seam}
+use lib.Seq.{take-all, take-set-le, drop-set-lt, set-at, length-take-le, drop-cons, take-at, drop-at, take-add, drop-drop, drop-append-add, take-append-seam}
 use Rattle.octets.proofs.Orders.{by-order}
 use Rattle.lent.specs.Lent.{front, placed, between}
 
@@ -85,6 +85,9 @@ row-all d lo hi x h = placed-set d lo x (replicate (hi - lo) x) (omega (arith, l
 -- ---- a list from a place on
 pub drop-here : (l : List ℕ) (i : ℕ) → i < length l → drop i l ≡ getD l i 0 ∷ drop (i + 1) l
 drop-here l i h = drop-cons l i 0 h ∙ ap (λ (k : ℕ). getD l i 0 ∷ drop k l) (sym (add-one i))
+
+pub to-end : {A : Type 0} (l : List A) (at : ℕ) → take (length l - at) (drop at l) ≡ drop at l
+to-end l at = take-all (length l - at) (drop at l) (omega (arith, length-drop at l))
 
 -- ---- a part of a row of levels
 pub length-between : (L : List ℕ) (a e : ℕ) → e ≤ length L → length (between a e L) ≡ e - a

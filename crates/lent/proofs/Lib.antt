@@ -2,3 +2,4 @@ pub mod Lent
 pub mod Putting
 pub mod Updated
 pub mod Numbers
+pub mod Filled

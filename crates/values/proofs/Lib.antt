@@ -3,6 +3,5 @@ pub mod Published
 pub mod Magnitude
 pub mod Ray
 pub mod Octets
-pub mod Filled
 pub mod Readings
 pub mod Passed

@@ -5,7 +5,7 @@ use native.Mathlib.Omega.{arith}
 use denote.Ref.{now}
 use lib.ListN.{length}
 use borrow.Author.Tests.{eq-eqb, ne-eqb}
-use Rattle.rules.specs.Fields.{lengthAt, pointsAt}
+use Rattle.rules.specs.Fields.{pointsAt}
 use Rattle.rules.proofs.Moved.{part-field, part-points, part-rules}
 use Rattle.base_format.specs.Rules.{rules3}
 use borrow.Author.Needs.{needs}

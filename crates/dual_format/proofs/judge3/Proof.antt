@@ -1,11 +1,11 @@
 -- First whether it is long enough, then the rest, which is read in the section's first 58 octets.
 use mathlib.Core.Path.{_≡_, refl, _∙_, ap}
-use Prim.Native.Nat.{ℕ, _+_, _*_, _≤_}
+use Prim.Native.Nat.{_+_, _*_, _≤_}
 use native.Mathlib.Omega.{arith}
 use denote.Ref.{now}
 use lib.ListN.{length}
 use borrow.Author.Tests.{ne-eqb}
-use Rattle.rules.specs.Fields.{lengthAt, raysAt, pointsAt}
+use Rattle.rules.specs.Fields.{lengthAt, pointsAt}
 use Rattle.rules.proofs.Moved.{part-field, part-rays, part-points, part-rules}
 use Rattle.dual_format.specs.Rules.{rules3, scanRules}
 use Rattle.dual_format.specs.Fields.{withLists, length3}

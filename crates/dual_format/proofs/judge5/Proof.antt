@@ -6,7 +6,6 @@ use native.Mathlib.Omega.{arith}
 use denote.Ref.{now}
 use lib.ListN.{length}
 use borrow.Author.Tests.{eq-eqb, ne-eqb}
-use Rattle.rules.specs.Fields.{lengthAt}
 use Rattle.rules.proofs.Moved.{part-field, part-meets, part-rules}
 use Rattle.scaled.specs.Scaled.{finiteSingle}
 use Rattle.dual_format.specs.Rules.{rules5, widthRule}

@@ -1,11 +1,12 @@
 -- `fits` meets its contract: the octets from the record's offset on have it at their front.
-use mathlib.Core.Path.{_≡_, sym, ap, _∙_}
+use mathlib.Core.Path.{sym, ap, _∙_}
 use mathlib.Core.List.{List}
 use Prim.Native.Nat.{ℕ}
 use native.Mathlib.Omega.{arith}
 use borrow.Author.Needs.{needs}
 use Rattle.index.specs.Index.{usable}
-use Rattle.index.proofs.Usable.{usable-outside, usable-from, to-end}
+use Rattle.lent.proofs.Lent.{to-end}
+use Rattle.index.proofs.Usable.{usable-outside, usable-from}
 use Rattle.index.proofs.fits.Statement.{statement}
 use Rattle.index.proofs.fits.Tie as tie
 

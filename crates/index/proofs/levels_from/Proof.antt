@@ -1,13 +1,13 @@
 -- `levels_from` meets its contract: the octets from the record's offset on have it at their front.
-use mathlib.Core.Path.{_≡_, refl, sym, ap, _∙_}
+use mathlib.Core.Path.{refl, sym, ap, _∙_}
 use mathlib.Core.List.{List}
 use mathlib.Core.Bool.{cond}
 use native.Mathlib.Omega.{arith}
-use Prim.Native.Nat.{ℕ, _<_}
-use lib.ListN.{length}
+use Prim.Native.Nat.{ℕ}
 use Rattle.lent.specs.Lent.{front}
 use Rattle.index.specs.Index.{usable, fromRecord}
-use Rattle.index.proofs.Usable.{usable-outside, usable-from, to-end}
+use Rattle.lent.proofs.Lent.{to-end}
+use Rattle.index.proofs.Usable.{usable-outside, usable-from}
 use borrow.Author.Needs.{needs}
 use Rattle.index.proofs.levels_from.Statement.{statement}
 use Rattle.index.proofs.levels_from.Tie as tie

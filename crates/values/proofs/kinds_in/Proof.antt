@@ -1,6 +1,6 @@
 -- Every level passed has its kind at its place.
 use Rattle.values.specs.declared.Reading.{Reading}
-use Rattle.values.proofs.Filled.{filled-more}
+use Rattle.lent.proofs.Filled.{filled-more}
 use mathlib.Core.Path.{_≡_, refl, _∙_, ap}
 use Prim.Native.Nat.{ℕ, _+_, _-_, _≤_, _<_}
 use native.Mathlib.Nat.{not-suc-le-zero}

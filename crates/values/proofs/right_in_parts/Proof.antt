@@ -3,9 +3,10 @@ use mathlib.Core.Path.{_≡_, _∙_, sym}
 use mathlib.Core.Bool.{_&&_}
 use native.Mathlib.Omega.{arith}
 use Prim.Native.Nat.{_-_}
-use lib.ListN.{length, drop, length-drop}
-use lib.Seq.{length-take-le, take-all}
+use lib.ListN.{length, drop}
+use lib.Seq.{length-take-le}
 use Rattle.octets.specs.Octets.{same}
+use Rattle.lent.proofs.Lent.{to-end}
 use Rattle.values.specs.Table.{octetsOf}
 use Rattle.values.proofs.Octets.{unlike-length, in-parts, writable-front, writable-back}
 use borrow.Author.Needs.{needs}
@@ -32,9 +33,7 @@ returns-2 : tie.Need-returns-2
 returns-2 c = let s = c .before .before .before .before .before .before .before .before in
     let xs = s .args .octets .now in
     let zs = s .args .table .now in
-    let rest-octets = take-all (length xs - 256) (drop 256 xs) (omega (arith, length-drop 256 xs)) in
-    let rest-table = take-all (length zs - 128) (drop 128 zs) (omega (arith, length-drop 128 zs)) in
-    let back : c .right-in2 .result ≡ same (drop 256 xs) (octetsOf (drop 128 zs)) = c .right-in2 .ensures ∙ (λ i. same (rest-octets i) (octetsOf (rest-table i))) in
+    let back : c .right-in2 .result ≡ same (drop 256 xs) (octetsOf (drop 128 zs)) = c .right-in2 .ensures ∙ (λ i. same (to-end xs 256 i) (octetsOf (to-end zs 128 i))) in
     (λ i. c .before .before .before .right-in .ensures i && back i) ∙ sym (in-parts 128 256 xs zs (omega arith) (omega arith) (s .pre .0))
 
 pub right-in-parts-spec : {M : Type 1} → statement M
