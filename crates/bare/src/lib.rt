@@ -1,7 +1,9 @@
 // THE CALLS without a file: run read, run check, run write (FORMAT.md, "Calls"). Nothing here asks anything of its caller: what is out of range is
 // refused, by FORMAT.md's numbers. Below stand `scan` and `runs`, which read, and `packing`, which writes; above stand the calls for C and Rust.
 use scan::Scan;
+ghost use mathlib.Core.Path.{_≡_};
 ghost use Rattle.bare.specs.Read.{ReadPromise, CheckPromise};
+ghost use Rattle.bare.specs.Inner.{byScan};
 ghost use Rattle.bare.specs.Write.{WritePromise};
 
 // Why run read refuses, a case for each of its numbers in FORMAT.md, "Refusals": 12, 10, 11, 8.
@@ -53,6 +55,16 @@ pub enum RunCheck {
     Refused(CheckRefusal),
 }
 
+// The answer by what a scan found.
+fn by_scan(found: Scan) -> RunCheck
+    ensures { λ r. ⌜ r ≡ byScan found ⌝ }
+{
+    match found {
+        Scan::Exact => RunCheck::Gives,
+        Scan::Off(at) => RunCheck::Refused(CheckRefusal::Data(at)),
+    }
+}
+
 // Run check: whether octets give exactly n bins under V, as run read would find, with nothing lent.
 pub fn run_check(octets: &[u8], v: u8, n: usize) -> RunCheck
     ensures { λ r. ⌜ CheckPromise v n (now (octets .entry)) r ⌝ }
@@ -63,10 +75,10 @@ pub fn run_check(octets: &[u8], v: u8, n: usize) -> RunCheck
     if 2097152 < n {
         return RunCheck::Refused(CheckRefusal::Argument);
     }
-    match scan::scan_runs(octets, v, n) {
-        Scan::Exact => RunCheck::Gives,
-        Scan::Off(at) => RunCheck::Refused(CheckRefusal::Data(at)),
+    if octets.len() < sums::BLOCK { // a few octets go straight to the loop: to call the scan takes about as long
+        return by_scan(scan::by_runs(octets, v, n));
     }
+    by_scan(scan::scan_runs(octets, v, n))
 }
 
 // Why run write refuses, a case for each of its numbers in FORMAT.md, "Refusals": 10 (too many levels, or a level over 252) and 11.

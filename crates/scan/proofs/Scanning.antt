@@ -73,7 +73,7 @@ over : (x left i j : ℕ) → left < x → i ≡ j → Off i ≡ verdict x left 
 over x left i j h e = simp (ne-eqb x left (omega arith)) (ap (λ (k : ℕ). Off k) e)
 
 -- d of the bins taken, as many are wanted less
-taken : (x d y left i j : ℕ) → d ≤ left → y ≡ d + x → i ≡ j → verdict x (left - d) i ≡ verdict y left j
+pub taken : (x d y left i j : ℕ) → d ≤ left → y ≡ d + x → i ≡ j → verdict x (left - d) i ≡ verdict y left j
 taken x d y left i j h e p =
     by-order x (left - d)
     (λ g. by-order (left - d) x (λ f. simp (eq-eqb x (left - d) (omega arith), eq-eqb y left (omega arith))) (λ f. other (omega arith) (omega arith)))

@@ -54,11 +54,14 @@ fn runs(n: &mut Numbers) {
     let v = if n.once_in(4) { n.one_of(&[0, 1, 251, 252, 253, 254, 255]) } else { n.octet() };
     let octets = match n.below(3) {
         0 => {
-            let len = n.below(60);
+            // of more than a block, which the scan takes at a time, now and then
+            let most = n.one_of(&[60, 60, 60, 2000]);
+            let len = n.below(most);
             n.octets(len)
         }
         _ => {
-            let (len, longest) = (n.below(500), n.one_of(&[1, 4, 100, 500]));
+            let most = n.one_of(&[500, 500, 500, 6000]);
+            let (len, longest) = (n.below(most), n.one_of(&[1, 4, 100, 500]));
             let levels = n.levels(len, 0, v, longest);
             if v < 254 {
                 pack_loosely(&levels, v, n)

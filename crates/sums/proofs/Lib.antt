@@ -1,0 +1,4 @@
+pub mod Totals
+pub mod Fronts
+pub mod Weighed
+pub mod Counting
