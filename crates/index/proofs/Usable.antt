@@ -4,13 +4,15 @@ use mathlib.Core.Path.{_≡_, refl, sym, ap, _∙_}
 use mathlib.Core.Bool.{Bool, true, false, false≢true, _&&_}
 use mathlib.Core.List.{List}
 use native.Mathlib.Omega.{arith}
-use lib.ListN.{length, drop, getD, length-drop}
+use lib.ListN.{length, replicate, take, drop, getD, length-drop}
 use lib.Seq.{drop-drop, getD-drop}
 use lib.Dec.{leb, ltb}
 use borrow.Author.Tests.{le-leb, lt-leb, lt-ltb, le-ltb, leb-true, ltb-true}
 use Rattle.runs.specs.Run.{levels, opens, runLen, digitSum}
 use Rattle.octets.proofs.Orders.{by-order}
-use Rattle.lent.proofs.Lent.{drop-here}
+use Rattle.lent.proofs.Lent.{drop-here, within}
+use Rattle.runs.specs.Inner.{runNext}
+use Rattle.runs.proofs.Here.{run-levels, run-fits}
 use Rattle.index.specs.declared.RayRecord.{RayRecord}
 use Rattle.index.specs.Index.{usable}
 use Rattle.index.specs.Pace.{longerRun}
@@ -79,6 +81,20 @@ module _ (v nb : ℕ) (s : List ℕ) (b : ℕ) where
       (λ h. usable-reached v nb s here i l h)
       (λ h. absurd (false≢true (sym e ∙ simp (lt-ltb _ _ i, le-leb _ _ l, lt-ltb _ _ h)))))
       (λ h. usable-above v nb s here i h))
+
+-- one run holds the bins up to the last
+module _ (v nb : ℕ) (s : List ℕ) (b : ℕ) (some : 0 < nb) (e : longerRun v s (b + nb - 1) ≡ true) where
+  pub there : (0 < length s) × (getD s 0 0 ≤ v) × (b + nb - 1 < runLen v s 0)
+  there = longer-there v nb s (b + nb - 1) e
+
+  pub whole-usable : usable v nb s (record { offset = 0; before = b }) ≡ true
+  whole-usable =
+      usable-left v nb s (record { offset = 0; before = b }) (there .0) (there .1) (omega (arith, there .2))
+      ∙ le-leb (b + nb) (length (levels v s)) (omega (arith, there .2, run-fits v s 0 (there .0) (there .1)))
+
+  pub whole-levels : replicate nb (getD s 0 0) ≡ take nb (drop b (levels v s))
+  whole-levels =
+      sym (ap (λ (l : List ℕ). take nb (drop b l)) (run-levels v s 0 (there .0) (there .1)) ∙ within b nb (runLen v s 0) (getD s 0 0) (levels v (drop (runNext v s 0) s)) (omega (arith, there .2)))
 
 -- ---- a record at an offset is one at the front of the octets from there on
 pub usable-from : (v nb : ℕ) (s : List ℕ) (p : RayRecord) → p .offset < length s → usable v nb (drop (p .offset) s) (record { offset = 0; before = p .before }) ≡ usable v nb s p

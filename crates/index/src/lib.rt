@@ -54,7 +54,7 @@ fn carry(row: &[u8], n: usize, out: &mut [u8])
 
 // Whether a run of more than so many bins stands at the octets' front.
 fn longer(octets: &[u8], v: u8, before: usize) -> bool
-    requires { ⌜ (v ≤ 253) × (before ≤ 4294967295) ⌝ }
+    requires { ⌜ (v ≤ 253) × (before ≤ 4294969343) ⌝ }
     ensures { λ r. ⌜ r ≡ longerRun v (now (octets .entry)) before ⌝ }
 {
     match runs::run_upto(octets, v, 0, before + 1) {
@@ -67,9 +67,9 @@ fn longer(octets: &[u8], v: u8, before: usize) -> bool
     }
 }
 
-// The levels from a record at the octets' front, whose earlier bins are given. They are decoded once, into a row of our own: not until the last of them is
-// there is it known that the record fits, and where it does not the lent memory is as it was.
-fn levels_in(octets: &[u8], v: u8, nb: usize, before: usize, out: &mut [u8]) -> bool
+// The levels from a record at the octets' front, whose earlier bins are given, by way of a row of our own: not until the last of them is there is it known that the record fits, and where it
+// does not the lent memory is as it was.
+fn levels_apart(octets: &[u8], v: u8, nb: usize, before: usize, out: &mut [u8]) -> bool
     requires { ⌜ (v ≤ 253) × (nb ≤ 2048) × (before ≤ 4294967295) × (nb ≤ length (now out)) ⌝ }
     ensures { λ r. ⌜ r ≡ usable v nb (now (octets .entry)) (record { offset = 0; before = before }) ⌝ }
     ensures { λ r. ⌜ now (out .exit) ≡ cond r (front (fromRecord v nb (now (octets .entry)) (record { offset = 0; before = before })) (now (out .entry))) (now (out .entry)) ⌝ }
@@ -83,6 +83,21 @@ fn levels_in(octets: &[u8], v: u8, nb: usize, before: usize, out: &mut [u8]) -> 
         return true;
     }
     false
+}
+
+// The same. One run may hold all the bins, as where the radar was blind: that it does is known before the first is stored.
+fn levels_in(octets: &[u8], v: u8, nb: usize, before: usize, out: &mut [u8]) -> bool
+    requires { ⌜ (v ≤ 253) × (nb ≤ 2048) × (before ≤ 4294967295) × (nb ≤ length (now out)) ⌝ }
+    ensures { λ r. ⌜ r ≡ usable v nb (now (octets .entry)) (record { offset = 0; before = before }) ⌝ }
+    ensures { λ r. ⌜ now (out .exit) ≡ cond r (front (fromRecord v nb (now (octets .entry)) (record { offset = 0; before = before })) (now (out .entry))) (now (out .entry)) ⌝ }
+{
+    if 0 < nb {
+        if longer(octets, v, before + nb - 1) {
+            lent::stamp(out, 0, nb, octets[0]);
+            return true;
+        }
+    }
+    levels_apart(octets, v, nb, before, out)
 }
 
 // The nb levels that decoding from a record gives, at the front of out; or false, and out as it was, where the record does not fit the data.

@@ -100,7 +100,7 @@ pub front-none : (l d : List ℕ) (e : ℕ) → e ≡ 0 → d ≡ front (take e 
 front-none l d e h = rw h
 
 -- a part of a run
-within : (j k m x : ℕ) (R : List ℕ) → j + k ≤ m → take k (drop j (replicate m x ++ R)) ≡ replicate k x
+pub within : (j k m x : ℕ) (R : List ℕ) → j + k ≤ m → take k (drop j (replicate m x ++ R)) ≡ replicate k x
 within j k m x R h =
     let r : ℕ = m - (j + k) in
     let cut : m ≡ j + (k + r) = omega arith in

@@ -1,4 +1,4 @@
-// The scan: whether octets give exactly the bins wanted, by FORMAT.md, "Run-length rule", in one pass and storing nothing. It asks that V and the bins are in range. Below it stand `runs`, which says what octets
+// The scan: whether octets give exactly the bins wanted, by FORMAT.md, "Run-length rule", once over the data and with no level stored. It asks that V and the bins are in range. Below it stand `runs`, which says what octets
 // give, and `sums`, which counts a block of them with no branch for an octet; above it `bare` (run read, run check) and `base_format` (the data of a file).
 ghost use mathlib.Core.Path.{_≡_};
 ghost use Prim.Native.Nat.{_≤_};
