@@ -1,5 +1,5 @@
 // THE CALLS without a file: run read, run check, run write (FORMAT.md, "Calls"). Nothing here asks anything of its caller: what is out of range is
-// refused, by FORMAT.md's numbers. Below stand `scan` and `runs`, which read, and `packing`, which writes; above stand the calls for C and Rust.
+// refused, by FORMAT.md's numbers. Below stand `scan` and `runs`, which read, `sums`, by whose block few octets are told from many, and `packing`, which writes; above stand the calls for C and Rust.
 use scan::Scan;
 ghost use mathlib.Core.Path.{_≡_};
 ghost use Rattle.bare.specs.Read.{ReadPromise, CheckPromise};
@@ -75,7 +75,7 @@ pub fn run_check(octets: &[u8], v: u8, n: usize) -> RunCheck
     if 2097152 < n {
         return RunCheck::Refused(CheckRefusal::Argument);
     }
-    if octets.len() < sums::BLOCK { // a few octets go straight to the loop: to call the scan takes about as long
+    if octets.len() < sums::BLOCK { // a few octets go straight to the loop, which spares them a call
         return by_scan(scan::by_runs(octets, v, n));
     }
     by_scan(scan::scan_runs(octets, v, n))
