@@ -106,9 +106,6 @@ module _ (s : List ℕ) (c : Cut) (g : GoodCut s c) (v : ℕ) (xs : List ℕ) (e
     list-gives t z ray bin ez = rw (ev, ex, eb, er, ep, ez)
 
 -- every level of a good cut is one of its product
-pub level-few : (s : List ℕ) (c : Cut) → GoodCut s c → (ray bin : ℕ) → ray < raysIn s c → bin < binsIn s c → levelIn s c ray bin ≤ levelCount (productIn s c)
+pub level-few : (s : List ℕ) (c : Cut) → GoodCut s c → (ray bin : ℕ) → levelIn s c ray bin ≤ levelCount (productIn s c)
 unfolding levelIn levelsIn
-level-few s c g ray bin h k =
-    let there = bin-inside ray (raysIn s c) bin (binsIn s c) h k in
-    let low = levels-le (greatestIn s c) (dataAt s (c .section7)) (ray * binsIn s c + bin) (omega (arith, all-levels s c g)) in
-    omega (arith, g .any .greatest-few)
+level-few s c g ray bin = omega (arith, levels-le (greatestIn s c) (dataAt s (c .section7)) (ray * binsIn s c + bin), g .any .greatest-few)

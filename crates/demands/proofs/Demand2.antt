@@ -217,7 +217,7 @@ module _ (s : List ℕ) (cs : List Cut) (a : Accepted s cs) (i : ℕ) (lt : i < 
   near-value one =
       let c = getD cs i noCut in
       let g = good-accepted s cs a i lt in
-      published-near (productIn s c) (levelIn s c ray bin) one (level-few s c g ray bin h k)
+      published-near (productIn s c) (levelIn s c ray bin) one (level-few s c g ray bin)
 
 -- ── read back ──
 

@@ -1,12 +1,12 @@
 -- The run at a place: the levels from there on are that run and then the levels past its digits. The laws by which a caller walks run by run.
-use Prim.Native.Nat.{ℕ, suc, _+_, _-_, _≤_, _<_}
+use Prim.Native.Nat.{ℕ, zero, suc, _+_, _-_, _≤_, _<_}
 use mathlib.Core.Path.{_≡_, refl, sym, ap, _∙_}
 use mathlib.Core.Bool.{Bool, true, false, cond}
 use mathlib.Core.List.{List, [], _∷_, _++_}
 use native.Mathlib.Omega.{arith}
 use lib.ListN.{length, drop, getD, replicate, length-append, length-replicate, length-drop, drop-of-length-le, getD-replicate, List·getD-append}
-use lib.Seq.{drop-drop, drop-at, getD-append-add, getD-drop}
-use lib.Dec.{leb, eqb}
+use lib.Seq.{drop-drop, drop-at, getD-drop}
+use lib.Dec.{eqb}
 use borrow.Author.Tests.{le-leb, leb-true, eqb-true, eqb-false}
 use Rattle.runs.specs.Run.{digitSum, levels, opens, gives, runLen}
 use Rattle.runs.specs.Inner.{digitCount, runNext, knownStep, Stands, InHand, Holds}
@@ -18,27 +18,22 @@ use Rattle.runs.proofs.Bins.{levels-nil, levels-open, levels-digit}
 use Rattle.runs.proofs.Steps.{digitCount-nil, digitCount-open, digitCount-digit}
 
 -- ---- every level is at most V
-pub levels-le : (v : ℕ) (s : List ℕ) (k : ℕ) → k < length (levels v s) → getD (levels v s) k 0 ≤ v
-levels-le v [] k h = absurd (omega (arith, ap length (levels-nil v)))
-levels-le v (o ∷ s) k h =
+append-le : (v : ℕ) (a b : List ℕ) → ((k : ℕ) → getD a k 0 ≤ v) → ((k : ℕ) → getD b k 0 ≤ v) → (k : ℕ) → getD (a ++ b) k 0 ≤ v
+append-le v [] b f g k = g k
+append-le v (x ∷ a) b f g zero = f 0
+append-le v (x ∷ a) b f g (suc k) = append-le v a b (λ j. f (suc j)) g k
+
+replicate-le : (v n x : ℕ) → x ≤ v → (k : ℕ) → getD (replicate n x) k 0 ≤ v
+replicate-le v zero x h k = omega arith
+replicate-le v (suc n) x h zero = h
+replicate-le v (suc n) x h (suc k) = replicate-le v n x h k
+
+pub levels-le : (v : ℕ) (s : List ℕ) (k : ℕ) → getD (levels v s) k 0 ≤ v
+levels-le v [] k = rw (levels-nil v) (omega arith)
+levels-le v (o ∷ s) k =
     by-order o v
-    (λ low.
-    let m : ℕ = 1 + digitSum v 0 s in
-    let row = levels-open v o s low in
-    let size = length-append (replicate m o) (levels v s) in
-    let run = length-replicate m o in
-    by-order m k
-    (λ g.
-    let j : ℕ = k - m in
-    let split : k ≡ length (replicate m o) + j = omega arith in
-    let here : getD (levels v (o ∷ s)) k 0 ≡ getD (levels v s) j 0 =
-    (λ i. getD (row i) (split i) 0) ∙ getD-append-add (replicate m o) (levels v s) j 0 in
-    omega (arith, here, levels-le v s j (omega (arith, ap length row))))
-    (λ g.
-    let here : getD (levels v (o ∷ s)) k 0 ≡ o =
-    ap (λ (l : List ℕ). getD l k 0) row ∙ List·getD-append (replicate m o) (levels v s) 0 k (omega arith) ∙ getD-replicate m k o 0 g in
-    omega (arith, here)))
-    (λ high. let row = levels-digit v o s high in rw row (levels-le v s k (omega (arith, ap length row))))
+    (λ h. rw (levels-open v o s h) (append-le v (replicate (1 + digitSum v 0 s) o) (levels v s) (replicate-le v (1 + digitSum v 0 s) o h) (levels-le v s) k))
+    (λ h. rw (levels-digit v o s h) (levels-le v s k))
 
 -- ---- past the digits at the front stands a level or the end, and the levels are the same
 skip : (v : ℕ) (t : List ℕ) → (levels v t ≡ levels v (drop (digitCount v t) t)) × (opens v (drop (digitCount v t) t) ≡ true)

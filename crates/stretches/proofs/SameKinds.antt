@@ -1,13 +1,12 @@
 -- Two scales that agree on every level of the data make the same list; a table of a product's kinds is such a scale, since no level is over V.
-use Prim.Native.Nat.{ℕ, zero, suc, _+_, _*_, _/_, _%_, _≤_}
+use Prim.Native.Nat.{ℕ, _*_, _/_, _%_, _≤_}
 use mathlib.Core.Path.{_≡_, ap}
-use mathlib.Core.List.{List, [], _∷_, _++_}
+use mathlib.Core.List.{List}
 use native.Mathlib.Omega.{arith}
-use lib.ListN.{getD, replicate}
+use lib.ListN.{getD}
 use lib.IntN.{ℤ}
-use Rattle.runs.specs.Run.{levels, digitSum}
-use Rattle.octets.proofs.Orders.{by-order}
-use Rattle.runs.proofs.Bins.{levels-nil, levels-open, levels-digit}
+use Rattle.runs.specs.Run.{levels}
+use Rattle.runs.proofs.Here.{levels-le}
 use Rattle.values.specs.Published.{levelCount}
 use Rattle.values.specs.Inner.{KindsBy}
 use Rattle.values.specs.declared.Product.{Product}
@@ -15,31 +14,13 @@ use Rattle.stretches.specs.Stretch.{KindOfLevel, kindAt, starts, listFro
 use Rattle.stretches.specs.Call.{kindByThreshold, stretchesFrom}
 use Rattle.stretches.specs.Inner.{kindByTable}
 
--- ---- no level is over V
-append-le : (v : ℕ) (a b : List ℕ) → ((k : ℕ) → getD a k 0 ≤ v) → ((k : ℕ) → getD b k 0 ≤ v) → (k : ℕ) → getD (a ++ b) k 0 ≤ v
-append-le v [] b f g k = g k
-append-le v (x ∷ a) b f g zero = f 0
-append-le v (x ∷ a) b f g (suc k) = append-le v a b (λ j. f (suc j)) g k
-
-replicate-le : (v n x : ℕ) → x ≤ v → (k : ℕ) → getD (replicate n x) k 0 ≤ v
-replicate-le v zero x h k = omega arith
-replicate-le v (suc n) x h zero = h
-replicate-le v (suc n) x h (suc k) = replicate-le v n x h k
-
-pub level-le : (v : ℕ) (xs : List ℕ) (k : ℕ) → getD (levels v xs) k 0 ≤ v
-level-le v [] k = rw (levels-nil v) (omega arith)
-level-le v (o ∷ xs) k =
-    by-order o v
-    (λ h. rw (levels-open v o xs h) (append-le v (replicate (1 + digitSum v 0 xs) o) (levels v xs) (replicate-le v (1 + digitSum v 0 xs) o h) (level-le v xs) k))
-    (λ h. rw (levels-digit v o xs h) (level-le v xs k))
-
 -- ---- scales that agree
 pub same-stretches : (sc sc′ : KindOfLevel) (ls : List ℕ) (nb m : ℕ) → ((p : ℕ) → kindAt sc ls p ≡ kindAt sc′ ls p) → stretchesOf sc ls nb m ≡ stretchesOf sc′ ls nb m
 same-stretches sc sc′ ls nb m h = λ i. listFrom (starts (λ p. h p i) nb) (λ p n. record { ray = p / nb; first = p % nb; len = n; kind = h p i }) 0 m
 
 pub same-listed : (sc sc′ : KindOfLevel) (v : ℕ) (xs : List ℕ) (nb nr q : ℕ) → ((l : ℕ) → l ≤ v → sc .kind l ≡ sc′ .kind l) → stretchesFrom sc v xs nb nr q ≡ stretchesFrom sc′ v xs nb nr q
 unfolding stretchesFrom
-same-listed sc sc′ v xs nb nr q h = ap (fromPlace nb q) (same-stretches sc sc′ (levels v xs) nb (nr * nb) (λ p. h (getD (levels v xs) p 0) (level-le v xs p)))
+same-listed sc sc′ v xs nb nr q h = ap (fromPlace nb q) (same-stretches sc sc′ (levels v xs) nb (nr * nb) (λ p. h (getD (levels v xs) p 0) (levels-le v xs p)))
 
 pub table-listed : (p : Product) (t : ℤ) (ks : List ℕ) (v : ℕ) (xs : List ℕ) (nb nr q : ℕ) → KindsBy p t ks → v ≤ levelCount p
     → stretchesFrom (kindByTable ks) v xs nb nr q ≡ stretchesFrom (kindByThreshold p t) v xs nb nr q

@@ -32,7 +32,7 @@ level-at-requires c κs = let s = c .before .before .before .before in
 returns : tie.Need-returns
 returns c = let s = c .before .before .before .before .before in
     let e = c .level-at .ensures ∙ level-gives (now (s .args .file)) (s .args .c) (s .pre .0) _ _ (c .before .before .greatest-in .ensures) (c .before .data-in .ensures) _ (s .args .ray) (c .before .before .before .bins-in .ensures) (s .pre .1 .0) (s .args .bin) in
-    (e, omega (arith, e, level-few (now (s .args .file)) (s .args .c) (s .pre .0) (s .args .ray) (s .args .bin) (s .pre .1 .0) (s .pre .1 .1)))
+    (e, omega (arith, e, level-few (now (s .args .file)) (s .args .c) (s .pre .0) (s .args .ray) (s .args .bin)))
 
 pub level-in-spec : {M : Type 1} → statement M
 level-in-spec =
