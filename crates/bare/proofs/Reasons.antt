@@ -77,6 +77,18 @@ module _ (v n : ℕ) (s d out : List ℕ) where
   pub read-answered : (a : RunRead) → ReadPromise v n s d a out → (a ≡ R.Read) ↔ ((q : ReadRefusal) → ReadReason v n (length d) s q → ⊥)
   read-answered a p = rw (p .answered) (answered read-or read-by read-apart)
 
+  -- what it reads gives exactly the levels wanted
+  read-only : (a b c g : Bool) (at : ℕ) → R.Read ≡ cond a (R.Refused F.V) (cond b (R.Refused F.Argument) (cond c (R.Refused F.Room) (cond g R.Read (R.Refused (F.Data at))))) → g ≡ true
+  read-only true b c g at e = absurd (read-apart F.V (sym e))
+  read-only false true c g at e = absurd (read-apart F.Argument (sym e))
+  read-only false false true g at e = absurd (read-apart F.Room (sym e))
+  read-only false false false true at e = refl
+  read-only false false false false at e = absurd (read-apart (F.Data at) (sym e))
+
+  pub read-gives : ReadPromise v n s d R.Read out → gives v n s ≡ true
+  unfolding readAnswer
+  read-gives p = read-only (ltb 253 v) (ltb 2097152 n) (ltb (length d) n) (gives v n s) (faultAt v n s) (p .answered)
+
 -- ── run check ──
 
 module _ (v n : ℕ) (s : List ℕ) where

@@ -1,2 +1,3 @@
 pub mod Fault
 pub mod Wrong
+pub mod Shortest

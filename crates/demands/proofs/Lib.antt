@@ -8,3 +8,4 @@ pub mod Demand3
 pub mod Samples
 pub mod SampleFiles
 pub mod Wrong
+pub mod Shortest

@@ -1,2 +1,3 @@
 pub mod Digits
 pub mod ReadBack
+pub mod Shortest

@@ -1,4 +1,5 @@
-// Template 7.200, writing: levels to octets, by FORMAT.md, "Run-length rule". What it writes reads back as the same levels (proofs/ReadBack.antt).
+// Template 7.200, writing: levels to octets, by FORMAT.md, "Run-length rule". What it writes reads back as the same levels (proofs/ReadBack.antt), and no octets
+// that do are fewer (proofs/Shortest.antt).
 // Below stands the crate `runs`, which has the one definition of decoding; above stands `bare`, with the call.
 ghost use mathlib.Core.Path.{_≡_};
 ghost use Prim.Native.Nat.{_≤_, _+_};
@@ -74,7 +75,7 @@ fn put_run(out: &mut [u8], at: usize, v: u8, x: u8, k: usize) -> usize
     out[at] = x;
     let mut j = at + 1;
     let mut m = k;
-    while m != 0 {
+    while m != 0 { // the last digit is not zero
         out[j] = v + 1 + (m % base) as u8;
         m /= base;
         j += 1;
@@ -109,7 +110,7 @@ pub fn put_all(levels: &[u8], v: u8, out: &mut [u8]) -> usize
     while i < levels.len() {
         let y = levels[i];
         i += 1;
-        if y == x {
+        if y == x { // the run goes on
             k += 1;
         } else {
             at = put_run(out, at, v, x, k);
