@@ -200,7 +200,8 @@ uint64_t polar_run_read(const uint8_t *octets, size_t octets_len, uint64_t v, si
 
 /*
  * Run write: writes the octets of `n` levels at the front of `octets`, which has room for `room`. Read back under the V
- * that it answers, they give the same levels.
+ * that it answers, they give the same levels. They are never more than n, and no octets that give these levels, under
+ * this V or another, are fewer.
  * answer: V, number of octets (POLAR_RUN_*).
  * Refusals, in this order: 10 where n is over POLAR_MOST_LEVELS or a level over POLAR_MOST_LEVEL; 11 where room is
  * under the exact length.

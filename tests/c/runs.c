@@ -110,6 +110,20 @@ static void writing(void)
     CHECK(answer[0] == 0 && answer[1] == 0);
 }
 
+/* Two 7s: as short as can be, and `7 7` is as short. */
+static void shortest(void)
+{
+    const uint8_t levels[] = {7, 7};
+    uint8_t octets[] = {0, 0}, back[] = {0, 0};
+    uint64_t answer[2];
+
+    CHECK(polar_run_write(levels, 2, octets, 1, answer) == POLAR_ROOM);
+    CHECK(polar_run_write(levels, 2, octets, 2, answer) == 0);
+    CHECK(answer[POLAR_RUN_V] == 7 && answer[POLAR_RUN_OCTETS] == 2 && octets[0] == 7 && octets[1] == 9);
+    CHECK(polar_run_read(levels, 2, 7, 2, back, 2) == 0);
+    CHECK(memcmp(back, levels, 2) == 0);
+}
+
 /* Where a length is 0 the pointer may be null. */
 static void nulls(void)
 {
@@ -175,6 +189,7 @@ int main(void)
     faulty_octets();
     many_zeros();
     writing();
+    shortest();
     nulls();
     words();
     texts();

@@ -4,7 +4,7 @@ use differential::compare::{run_check, run_read, Compared};
 use reference::maker::{CutPlan, Plan};
 use reference::numbers::Numbers;
 use reference::published::Product;
-use reference::runs::{levels_of, runs, write_run, MOST_LEVELS};
+use reference::runs::{levels_of, pack, runs, MOST_LEVELS};
 use reference::scene::rainy_day;
 use reference::shapes::pack_loosely;
 
@@ -48,15 +48,6 @@ fn a_fault_at_every_octet() {
             }
         }
     }
-}
-
-/// The shortest packing under V.
-fn pack(levels: &[u8], v: u8) -> Vec<u8> {
-    let mut octets = vec![];
-    for run in levels.chunk_by(|a, b| a == b) {
-        write_run(&mut octets, run[0], run.len(), v);
-    }
-    octets
 }
 
 /// One run of some digits at every place about a block's end, between runs of one bin.

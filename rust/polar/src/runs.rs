@@ -68,7 +68,8 @@ pub fn read(octets: &[u8], v: u8, n: usize) -> Result<Vec<u8>, Refusal> {
     Ok(levels)
 }
 
-/// The octets of levels from 0 to 252. Read under their `v` they give the same levels.
+/// The octets of levels from 0 to 252. Read under their `v` they give the same levels, and no octets that do, under this `v` or
+/// another, are fewer.
 ///
 /// ```
 /// let packed = polar::runs::write(&[252; 10])?;
@@ -77,7 +78,7 @@ pub fn read(octets: &[u8], v: u8, n: usize) -> Result<Vec<u8>, Refusal> {
 /// # Ok::<(), polar::runs::Refusal>(())
 /// ```
 pub fn write(levels: &[u8]) -> Result<Packed, Refusal> {
-    // octets are never more than the levels they stand for: a run of n bins takes at most n
+    // octets are never more than the levels they stand for
     let mut octets = vec![0; levels.len()];
     let mut answer = [0; 2];
     Refusal::check(polar_sys::run_write(levels, &mut octets, &mut answer))?;

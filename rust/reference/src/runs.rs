@@ -133,14 +133,37 @@ pub fn write_run(octets: &mut Vec<u8>, level: u8, length: usize, v: u8) {
     }
 }
 
-/// The octets of the writer: each run as long as it can be, its digits ended with a non-zero one.
-pub fn encode(levels: &[u8]) -> (u8, Vec<u8>) {
-    let v = levels.iter().copied().max().unwrap_or(0);
+/// Levels up to V under V: each run as long as it can be, its digits ended with a non-zero one.
+pub fn pack(levels: &[u8], v: u8) -> Vec<u8> {
     let mut octets = Vec::new();
     for run in levels.chunk_by(|a, b| a == b) {
         write_run(&mut octets, run[0], run.len(), v);
     }
-    (v, octets)
+    octets
+}
+
+/// The octets of the writer, whose V is the greatest level.
+pub fn encode(levels: &[u8]) -> (u8, Vec<u8>) {
+    let v = levels.iter().copied().max().unwrap_or(0);
+    (v, pack(levels, v))
+}
+
+/// How many digits a run of so many bins takes: with k of them it has up to B^k.
+fn digits_for(length: usize, v: u8) -> usize {
+    let base = 255 - usize::from(v);
+    let reaches = iter::successors(Some(1usize), |reach| Some(reach.saturating_mul(base)));
+    reaches.take_while(|reach| *reach < length).count()
+}
+
+/// The fewest octets that write levels under V, of all ways to cut them into runs. No call tells it: the writer is held against it.
+pub fn fewest_octets(levels: &[u8], v: u8) -> usize {
+    let mut fewest = vec![0];
+    for (end, level) in levels.iter().enumerate() {
+        let longest = levels[..=end].iter().rev().take_while(|one| *one == level).count();
+        let by_last_run = (1..=longest).map(|length| fewest[end + 1 - length] + 1 + digits_for(length, v));
+        fewest.push(by_last_run.min().expect("a run of one bin"));
+    }
+    fewest[levels.len()]
 }
 
 #[derive(Debug, Clone, Copy, PartialEq, Eq)]
@@ -166,6 +189,7 @@ pub fn run_write(levels: &[u8], room: &mut [u8]) -> Result<Written, Refusal> {
 mod tests {
     use super::*;
     use crate::numbers::Numbers;
+    use std::collections::HashMap;
 
     fn reads(octets: &[u8], v: u8, n: usize) -> Result<Vec<u8>, u32> {
         let mut levels = vec![0; n];
@@ -308,10 +332,49 @@ mod tests {
     #[test]
     fn checked_examples_of_writing() {
         assert_eq!(encode(&[7; 10]), (7, vec![7, 17]));
+        assert_eq!(encode(&[7; 2]), (7, vec![7, 9]));
         assert_eq!(encode(&[252; 10]), (252, vec![252, 253, 253, 254]));
         assert_eq!(encode(&[]), (0, vec![]));
         assert_eq!(run_write(&[253], &mut [0; 9]), refused(10));
         assert_eq!(run_write(&[7; 10], &mut [0; 1]), refused(11));
         assert_eq!(run_write(&[7; 10], &mut [0; 2]), Ok(Written { v: 7, octets: 2 }));
+    }
+
+    #[test]
+    fn the_fewest_octets() {
+        assert_eq!(fewest_octets(&[], 0), 0);
+        assert_eq!(fewest_octets(&[7], 7), 1);
+        for (v, most) in [(7, &[1, 248][..]), (250, &[1, 5, 25, 125]), (252, &[1, 3, 9, 27]), (253, &[1, 2, 4, 8])] {
+            for (digits, most) in most.iter().enumerate() {
+                assert_eq!(fewest_octets(&vec![7; *most], v), 1 + digits, "{most} bins under V {v}");
+                assert_eq!(fewest_octets(&vec![7; *most + 1], v), 2 + digits, "{most} bins and one under V {v}");
+            }
+        }
+        assert_eq!(fewest_octets(&[7, 7, 0, 0, 0, 9], 9), 5);
+    }
+
+    /// Every row of up to five octets that are 0, 7, V or a digit, under each of the four greatest V: the fewest that give a row of
+    /// levels are as many as is worked out, and never fewer than the writer's.
+    #[test]
+    fn no_fewer_among_all_rows_of_octets() {
+        for v in 250..=253u8 {
+            let values: Vec<u8> = [0, 7].into_iter().chain(v..=255).collect();
+            let mut rows = vec![vec![]];
+            let mut found: HashMap<Vec<u8>, usize> = HashMap::new();
+            for len in 0..=5 {
+                for octets in rows.iter().filter(|octets| !opens_above(octets, v)) {
+                    let bins = levels_of(&runs(octets, v).expect("opens with a level")) as usize;
+                    found.entry(decode(octets, v, bins).expect("what they give")).or_insert(len);
+                }
+                rows = rows.iter().flat_map(|row| values.iter().map(|value| [&row[..], &[*value]].concat())).collect();
+            }
+            assert!(found.len() > 400, "{}", found.len());
+            for (levels, fewest) in found {
+                assert_eq!(fewest_octets(&levels, v), fewest, "V {v}, {levels:?}");
+                if levels.iter().all(|level| *level <= GREATEST_LEVEL) {
+                    assert!(encode(&levels).1.len() <= fewest, "V {v}, {levels:?}");
+                }
+            }
+        }
     }
 }

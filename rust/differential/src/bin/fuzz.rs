@@ -2,7 +2,7 @@
 //! spoiled files and on octets of any kind, with arguments also at the ends of their types. It stops at the first answer or
 //! octet that differs, and names the round that it came in.
 use differential::compare::{run_check, run_read, run_write, Compared};
-use differential::dual;
+use differential::{dual, ours};
 use reference::cases::about_the_greatest;
 use reference::dual::shapes as dual_shapes;
 use reference::index::shapes::{random_record, random_unchecked_plan};
@@ -10,7 +10,7 @@ use reference::index::Record;
 use reference::maker::{assemble, CutPlan, Plan, Section};
 use reference::numbers::Numbers;
 use reference::published::Product;
-use reference::runs::{levels_of, MOST_LEVELS};
+use reference::runs::{levels_of, GREATEST_LEVEL, MOST_LEVELS};
 use reference::shapes::{pack_loosely, random_cut, random_plan};
 use reference::spoil::{spoil, spoil_sections};
 use reference::stretches::{ENTRY_WORDS, HOUSE_THRESHOLD};
@@ -50,6 +50,15 @@ fn room(wanted: usize, n: &mut Numbers) -> usize {
     }
 }
 
+/// Octets that give these bins under V are no fewer than run write writes for them.
+fn no_shorter(octets: &[u8], v: u8, bins: usize) {
+    let mut levels = vec![0; bins];
+    if ours::run_read(octets, v.into(), bins, &mut levels).is_ok() && levels.iter().all(|level| *level <= GREATEST_LEVEL) {
+        let written = run_write(&levels, octets.len());
+        assert!(written.is_ok(), "V {v}, {bins} bins in {} octets: {octets:?}", octets.len());
+    }
+}
+
 fn runs(n: &mut Numbers) {
     let v = if n.once_in(4) { n.one_of(&[0, 1, 251, 252, 253, 254, 255]) } else { n.octet() };
     let octets = match n.below(3) {
@@ -82,6 +91,9 @@ fn runs(n: &mut Numbers) {
     };
     let _ = run_check(&octets, v, wanted);
     let _ = run_read(&octets, v, wanted, room(wanted.min(5000), n));
+    if bins < 20_000 && v < 254 {
+        no_shorter(&octets, v, bins);
+    }
     let (len, high, longest) = (n.below(600), n.octet(), n.one_of(&[1, 3, 80, 600]));
     let levels = n.levels(len, 0, high, longest);
     let packed = reference::runs::encode(&levels.iter().map(|level| (*level).min(252)).collect::<Vec<_>>()).1;
