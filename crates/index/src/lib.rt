@@ -52,7 +52,7 @@ fn carry(row: &[u8], n: usize, out: &mut [u8])
     lent::put_octets(out, 0, &row[..n]);
 }
 
-// Whether a run of more than so many bins stands at the octets' front.
+// Whether a run of more than so many bins stands at the octets' front. They are a record's earlier bins, 2^32 - 1 at most, with up to 2,048 of its ray.
 fn longer(octets: &[u8], v: u8, before: usize) -> bool
     requires { ⌜ (v ≤ 253) × (before ≤ 4294969343) ⌝ }
     ensures { λ r. ⌜ r ≡ longerRun v (now (octets .entry)) before ⌝ }
