@@ -191,9 +191,12 @@ fn files(n: &mut Numbers) {
         let (t, words) = (threshold(product, n), n.one_of(&[0, ENTRY_WORDS - 1, ENTRY_WORDS, ENTRY_WORDS + 1, 3 * ENTRY_WORDS, 100, 4000]));
         compared.stretches(cut, t, point, words);
     }
-    if compared.verdict.is_ok() {
-        let words = n.within(ENTRY_WORDS, 100 * ENTRY_WORDS);
-        compared.fetched(n.below(cuts), n.below(17_000) as i32 - 8500, words);
+    if let Ok(accepted) = &compared.verdict {
+        let cut = n.below(cuts);
+        let grid = accepted.cuts[cut].grid;
+        // of a great grid in some hundred portions at most: each is a call that checks the whole file
+        let least = ENTRY_WORDS * (1 + grid.bins * grid.rays / 400);
+        compared.fetched(cut, n.below(17_000) as i32 - 8500, n.within(least, least + 100 * ENTRY_WORDS));
     }
 }
 
