@@ -46,21 +46,35 @@ no-reason low few fits exact q (ReadReason.by-argument a b) = omega arith
 no-reason low few fits exact q (ReadReason.by-room a b c) = omega arith
 no-reason low few fits exact q (ReadReason.by-data a b c x) = fault-given x exact
 
+-- what run write wrote: under a V of 252 and less the octets of at most 2,097,152 levels, none of them over V
+pub record Written (s out : List ℕ) (v n : ℕ) : Type 0 where
+  pub few : length s ≤ 2097152
+  pub low : v ≤ 252
+  pub top : greatest s ≤ v
+  pub long : n ≡ length (written v s)
+  pub octets : take n out ≡ written v s
+
+pub wrote : {s d out : List ℕ} {v n : ℕ} → WritePromise s d (Wrote v n) out → Written s out v n
+wrote {s} {d} {out} {v} {n} w =
+    let told = write-tells s d out v n w in
+    let top : v ≡ greatest s = cc told in
+    let long : n ≡ length (packed s) = cc told in
+    let none = write-answered s d out (Wrote v n) w .0 told in
+    record {
+      few = by-order (length s) 2097152 (λ h. h) (λ h. absurd (none Argument (by-count h)));
+      low = by-order v 252 (λ h. h) (λ h. absurd (none Argument (by-level (rw top at h))));
+      top = omega arith;
+      long = long ∙ ap (λ (x : ℕ). length (written x s)) (sym top);
+      octets = (λ i. take (long i) (write-octets w refl i)) ∙ take-append-seam (packed s) (drop (length (packed s)) d) ∙ ap (λ (x : ℕ). written x s) (sym top);
+    }
+
 -- Demand 2: the octets that run write wrote, given to run read with the V it answered and room for the levels, are read, and what then stands in
 -- front of the lent levels is the row that was written
 pub read-back : {s d out : List ℕ} {v n : ℕ} → WritePromise s d (Wrote v n) out →
     {d′ out′ : List ℕ} {answer : RunRead} → length s ≤ length d′ → ReadPromise v (length s) (take n out) d′ answer out′ → (answer ≡ R.Read) × (out′ ≡ front s d′)
 read-back {s} {d} {out} {v} {n} w {d′} {out′} {answer} room p =
-    let told = write-tells s d out v n w in
-    let top : v ≡ greatest s = cc told in
-    let long : n ≡ length (packed s) = cc told in
-    let none = write-answered s d out (Wrote v n) w .0 told in
-    let few : length s ≤ 2097152 = by-order (length s) 2097152 (λ h. h) (λ h. absurd (none Argument (by-count h))) in
-    let low : v ≤ 252 = by-order v 252 (λ h. h) (λ h. absurd (none Argument (by-level (rw top at h)))) in
-    let over : greatest s ≤ v = omega arith in
-    let octets : take n out ≡ written v s =
-    (λ i. take (long i) (write-octets w refl i)) ∙ take-append-seam (packed s) (drop (length (packed s)) d) ∙ ap (λ (x : ℕ). written x s) (sym top) in
-    let exact : Exactly v (length s) (take n out) = rw octets (gives-exactly v (length s) (written v s) (written-gives v low s over)) in
-    let yes = read-answered v (length s) (take n out) d′ out′ answer p .1 (no-reason (omega arith) few room exact) in
-    let same : Decodes v (written v s) s = rw (written-levels v low s over) at (levels-decode v (written v s) (written-opens v s over)) in
-    (yes, read-levels p yes s (rw octets same))
+    let k = wrote w in
+    let exact : Exactly v (length s) (take n out) = rw (k .octets) (gives-exactly v (length s) (written v s) (written-gives v (k .low) s (k .top))) in
+    let yes = read-answered v (length s) (take n out) d′ out′ answer p .1 (no-reason (omega (arith, k .low)) (k .few) room exact) in
+    let same : Decodes v (written v s) s = rw (written-levels v (k .low) s (k .top)) at (levels-decode v (written v s) (written-opens v s (k .top))) in
+    (yes, read-levels p yes s (rw (k .octets) same))

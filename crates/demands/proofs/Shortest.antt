@@ -10,7 +10,8 @@ use Rattle.runs.specs.Run.{digitSum, levels}
 use Rattle.runs.proofs.Here.{gives-true, levels-le}
 use Rattle.packing.specs.Write.{greatest, digitsUpTo, digitsOf, code, onFrom, written, packed}
 use Rattle.packing.proofs.Digits.{written-short}
-use Rattle.packing.proofs.Shortest.{shortest, greatest-le}
+use Rattle.packing.proofs.ReadBack.{written-levels}
+use Rattle.packing.proofs.Shortest.{shortest, greatest-le, written-le}
 use Rattle.bare.specs.Read.{ReadPromise}
 use Rattle.bare.specs.Write.{writeAnswer, writeOut, WritePromise}
 use Rattle.bare.specs.Reasons.{WriteReason}
@@ -19,6 +20,7 @@ use Rattle.bare.specs.declared.WriteRefusal.{WriteRefusal}
 use Rattle.bare.specs.declared.RunWrite.{RunWrite}
 use Rattle.bare.specs.declared.RunWrite.the-variants.{Wrote}
 use Rattle.bare.proofs.Reasons.{read-gives, write-tells, write-answered}
+use Rattle.bare.proofs.Write.{wrote}
 use Rattle.rules.specs.Fields.{lengthAt}
 use Rattle.base_format.specs.Parts.{dataAt, greatestIn, levelsIn}
 use Rattle.base_format.specs.Accepted.{Accepted}
@@ -42,6 +44,15 @@ module _ {s d out : List ℕ} {v n : ℕ} (w : WritePromise s d (Wrote v n) out)
   none-read-shorter u t small {d′} {out′} p back =
       let count = gives-true u (length s) t (read-gives u (length s) t d′ out′ p) .1 in
       no-shorter u t small (sym (take-append-seam (levels u t) (drop (length (levels u t)) d′)) ∙ (λ i. take (count i) (sym (p .held) i)) ∙ back)
+
+  -- n octets there are: those that it wrote, which decode to these levels under the V that it answered
+  pub reached : (length (take n out) ≡ n) × ((i : ℕ) → getD (take n out) i 0 < 256) × (levels v (take n out) ≡ s)
+  reached =
+      let k = wrote w in (
+        ap length (k .octets) ∙ sym (k .long),
+        (λ i. rw (k .octets) (omega (arith, written-le v (k .low) s (k .top) i))),
+        ap (levels v) (k .octets) ∙ written-levels v (k .low) s (k .top),
+      )
 
   -- and n is at most the number of levels
   pub at-most-levels : n ≤ length s

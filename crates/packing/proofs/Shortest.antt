@@ -1,18 +1,18 @@
 -- Octets are never fewer than those that the writer writes for the levels that they give, whatever V they are read under. The idea: for the bins of one level that were given so far the writer's digits are
 -- never more than the octets spent on them, the first left out. A digit more makes what can have been given B times as much, a further run of the level makes it less than that, and a greater V has a lesser B.
-use Prim.Native.Nat.{ℕ, zero, suc, _+_, _-_, _*_, _/_, _^_, _≤_, _<_}
+use Prim.Native.Nat.{ℕ, zero, suc, _+_, _-_, _*_, _/_, _%_, _^_, _≤_, _<_}
 use mathlib.Core.Path.{_≡_, refl, ap, _∙_}
 use mathlib.Core.List.{List, [], _∷_, _++_}
-use native.Mathlib.Nat.{div-lt-iff-lt-mul, pow-zero, pow-suc, pow-le-pow-left, mul-le-mul, le-mul-of-pos-right, mul-comm, add-mul, suc-mul, zero-mul}
+use native.Mathlib.Nat.{mod-lt, div-lt-iff-lt-mul, pow-zero, pow-suc, pow-le-pow-left, mul-le-mul, le-mul-of-pos-right, mul-comm, add-mul, suc-mul, zero-mul}
 use native.Mathlib.Numerals.{add-one, one-add}
 use native.Mathlib.Omega.{arith}
 use lib.ListN.{length, getD, replicate, length-append, length-replicate}
 use Rattle.runs.specs.Run.{base, digitSum, levels}
 use Rattle.octets.proofs.Orders.{by-order}
 use Rattle.runs.proofs.Bins.{digitSum-nil, digitSum-open, digitSum-digit, levels-nil, levels-open, levels-digit}
-use Rattle.runs.proofs.Here.{levels-le}
-use Rattle.packing.specs.Write.{greatest, digitsOf, code, onFrom, written, packed}
-use Rattle.packing.proofs.Digits.{alike, digits-zero, digits-more, code-length, greatest-cons, greatest-nil, onFrom-nil, onFrom-same, onFrom-other, written-cons, written-nil, written-short}
+use Rattle.runs.proofs.Here.{append-le, levels-le}
+use Rattle.packing.specs.Write.{greatest, digitsUpTo, digitsOf, code, onFrom, written, packed}
+use Rattle.packing.proofs.Digits.{alike, up-more, octetsOf, code-is, digits-zero, digits-more, code-length, greatest-cons, greatest-nil, onFrom-nil, onFrom-same, onFrom-other, written-cons, written-nil, written-short}
 
 -- ---- the writer's side
 -- what no level is over, the greatest is not
@@ -153,3 +153,35 @@ shortest v t small =
     by-order v 253
     (λ h. written-least (greatest-le v (levels v t) (levels-le v t)) h t small)
     (λ h. omega (arith, written-short (greatest (levels v t)) (levels v t), few-levels v h t small))
+
+-- ---- and what is written is octets: under a V of 252 and less no digit's octet is over 255
+first-le : (b x : ℕ) (l : List ℕ) → x ≤ b → ((i : ℕ) → getD l i 0 ≤ b) → (i : ℕ) → getD (x ∷ l) i 0 ≤ b
+first-le b x l h rest zero = h
+first-le b x l h rest (suc i) = rest i
+
+module _ (v : ℕ) (low : v ≤ 252) where
+  digits-le : (f m i : ℕ) → getD (octetsOf v (digitsUpTo f (base v) m)) i 0 ≤ 255
+  unfolding octetsOf digitsUpTo
+  digits-le zero m i = omega arith
+  digits-le (suc f) m i =
+      by-order m 0
+      (λ g. let z : m ≡ 0 = omega arith in rw z (omega arith))
+      (λ g.
+      rw (up-more f (base v) m g)
+      (first-le 255 (v + 1 + m % base v) (octetsOf v (digitsUpTo f (base v) (m / base v))) (omega (arith, mod-lt m {m = base v} (omega arith))) (λ j. digits-le f (m / base v) j) i))
+
+  code-le : (x k : ℕ) → x ≤ v → (i : ℕ) → getD (code v x k) i 0 ≤ 255
+  unfolding digitsOf
+  code-le x k h i = rw (code-is v x k) (first-le 255 x (octetsOf v (digitsOf (base v) k)) (omega arith) (λ j. digits-le k k j) i)
+
+  onFrom-le : (s : List ℕ) → greatest s ≤ v → (x k : ℕ) → x ≤ v → (i : ℕ) → getD (onFrom v x k s) i 0 ≤ 255
+  onFrom-le [] hs x k hx i = rw (onFrom-nil v x k) (code-le x k hx i)
+  onFrom-le (y ∷ s) hs x k hx i =
+      let rest : greatest s ≤ v = omega (arith, greatest-cons y s) in
+      alike y x
+      (λ e. rw (onFrom-same v x k y s e) (onFrom-le s rest x (k + 1) hx i))
+      (λ e. rw (onFrom-other v x k y s e) (append-le 255 (code v x k) (onFrom v y 0 s) (code-le x k hx) (onFrom-le s rest y 0 (omega (arith, greatest-cons y s))) i))
+
+  pub written-le : (s : List ℕ) → greatest s ≤ v → (i : ℕ) → getD (written v s) i 0 ≤ 255
+  written-le [] h i = rw (written-nil v) (omega arith)
+  written-le (x ∷ s) h i = rw (written-cons v x s) (onFrom-le s (omega (arith, greatest-cons x s)) x 0 (omega (arith, greatest-cons x s)) i)

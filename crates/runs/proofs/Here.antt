@@ -18,7 +18,7 @@ use Rattle.runs.proofs.Bins.{levels-nil, levels-open, levels-digit}
 use Rattle.runs.proofs.Steps.{digitCount-nil, digitCount-open, digitCount-digit}
 
 -- ---- every level is at most V
-append-le : (v : ℕ) (a b : List ℕ) → ((k : ℕ) → getD a k 0 ≤ v) → ((k : ℕ) → getD b k 0 ≤ v) → (k : ℕ) → getD (a ++ b) k 0 ≤ v
+pub append-le : (v : ℕ) (a b : List ℕ) → ((k : ℕ) → getD a k 0 ≤ v) → ((k : ℕ) → getD b k 0 ≤ v) → (k : ℕ) → getD (a ++ b) k 0 ≤ v
 append-le v [] b f g k = g k
 append-le v (x ∷ a) b f g zero = f 0
 append-le v (x ∷ a) b f g (suc k) = append-le v a b (λ j. f (suc j)) g k
