@@ -1,5 +1,7 @@
 // THE CALLS without a file: run read, run check, run write (FORMAT.md, "Calls"). Nothing here asks anything of its caller: what is out of range is
 // refused, by FORMAT.md's numbers. Below stand `scan` and `runs`, which read, `sums`, by whose block few octets are told from many, and `packing`, which writes; above stand the calls for C and Rust.
+#![tactic(auto)]
+
 ghost use Rattle.std.specs.Prelude.{◌≡◌};
 ghost use Rattle.bare.specs.Read.{ReadPromise, CheckPromise};
 ghost use Rattle.bare.specs.Inner.{by_scan};
@@ -9,7 +11,7 @@ use scan::Scan;
 
 // Why run read refuses, a case for each of its numbers in FORMAT.md, "Refusals": 12, 10, 11, 8.
 // The last has the offset of the octet at fault, which is the refusal's place.
-#[derive(Drop)]
+#[derive(Clone, Copy)]
 pub enum ReadRefusal {
     V,
     Argument,
@@ -18,7 +20,7 @@ pub enum ReadRefusal {
 }
 
 // What run read answers: the levels are written, or a refusal.
-#[derive(Drop)]
+#[derive(Clone, Copy)]
 pub enum RunRead {
     Read,
     Refused(ReadRefusal),
@@ -46,7 +48,7 @@ pub fn run_read(octets: &[u8], v: u8, n: usize, out: &mut [u8]) -> RunRead
 }
 
 // Why run check refuses: 12, 10, 8, the last with the offset of the octet at fault.
-#[derive(Drop)]
+#[derive(Clone, Copy)]
 pub enum CheckRefusal {
     V,
     Argument,
@@ -54,7 +56,7 @@ pub enum CheckRefusal {
 }
 
 // What run check answers.
-#[derive(Drop)]
+#[derive(Clone, Copy)]
 pub enum RunCheck {
     Gives,
     Refused(CheckRefusal),
@@ -87,14 +89,14 @@ pub fn run_check(octets: &[u8], v: u8, n: usize) -> RunCheck
 }
 
 // Why run write refuses, a case for each of its numbers in FORMAT.md, "Refusals": 10 (too many levels, or a level over 252) and 11.
-#[derive(Drop)]
+#[derive(Clone, Copy)]
 pub enum WriteRefusal {
     Argument,
     Room,
 }
 
 // What run write answers: V and the number of octets, or a refusal.
-#[derive(Drop)]
+#[derive(Clone, Copy)]
 pub enum RunWrite {
     Wrote { v: u8, len: usize },
     Refused(WriteRefusal),

@@ -1,6 +1,8 @@
 // How answers go out to C, and how wide arguments come in: the word that a call returns, the words of its lent answer, V and a threshold narrowed once they cannot wrap.
 // On a refusal nothing is written. Nothing is decided here: the calls decide, and specs/ says how each of their answers goes out. Below it stand the calls;
 // above it `polar_c`, whose functions C calls.
+#![tactic(auto)]
+
 ghost use Rattle.std.specs.Prelude.{◌≡◌, [], ◌≤◌, length};
 ghost use Rattle.std.proofs.lemmas.List.Edits.{sets};
 ghost use Rattle.c_words.specs.Word.{refusal_word, word_of, place_told, InWord};

@@ -1,5 +1,7 @@
 // What a call on a file comes to, for any format: the file's own refusal; 10 where it has no such cut; or what the call says of the cut. And the answers that calls of
 // several crates give. Below it stand `walks` (the file's checks) and both formats; above it the calls, `polar`, `records` and `dualpol`, which are siblings.
+#![tactic(auto)]
+
 ghost use Rattle.std.specs.Prelude.{◌≡◌, true, ◌&&◌, ltb, leb};
 ghost use Rattle.sections.specs.Parts.{bins_in, rays_in};
 ghost use Rattle.base_format.specs.Verdict.{verdict, any_data_verdict};
@@ -10,21 +12,21 @@ use sections::{Cut, Judged, Refusal, Why};
 use walks::Walked;
 
 // The cut that was asked for, of an accepted file; or the refusal.
-#[derive(Drop)]
+#[derive(Clone, Copy)]
 pub enum Sought {
     Cut(Cut),
     Refused(Refusal),
 }
 
 // What the ray calls answer, by a record or without one, and index building.
-#[derive(Drop)]
+#[derive(Clone, Copy)]
 pub enum RayAnswer {
     Written,
     Refused(Refusal),
 }
 
 // What bin value answers.
-#[derive(Drop)]
+#[derive(Clone, Copy)]
 pub enum BinAnswer {
     Missing,
     Value(f64),

@@ -1,6 +1,8 @@
 // One cut of an accepted file, read by the places of its sections: Nb, Nr, V, its data; a ray's levels, a bin's level, its stretches. Every function that
 // reads data asks that the cut is good (specs/Good.antt of `base_format`), which the file's checks have shown, and tests nothing again; those that go by a record ask it but for
 // the data. Below it stand `sections`, `base_format`, `runs`, `index`, `values` and `stretches`; above it `polar` and `records`, whose calls make the checks, and `lister`, which goes over all cuts of a file.
+#![tactic(auto)]
+
 ghost use Rattle.std.specs.Prelude.{◌≡◌, true, cond, ◌+◌, ◌*◌, ◌≤◌, ◌<◌, length};
 ghost use Rattle.lent.specs.Lent.{front};
 ghost use Rattle.index.specs.Index.{usable, from_record};

@@ -3,3 +3,4 @@
 // Shortest.antt: no call on a file answers 12, which octet is bad, the packing is as short as can be.
 // proofs/Samples.antt has what the promises say of small inputs, and proofs/Wrong.antt which wrong programs they shut out, on small whole files (proofs/SampleFiles.antt).
 // Stands on all the calls; above it `indexed` and `c_samples`. No function: a theorem that is false is refused like a function that is wrong.
+#![tactic(auto)]

@@ -1,6 +1,8 @@
 // THE CALLS of a dual-polarisation file: FORMAT.md, "Dual-polarisation files". Each is lent the whole file, makes all the file's checks itself, then answers or refuses by 10; none asks
 // anything of its caller. What each answers is one definition of specs/. Below it stand `walks` (the file's checks), `dual_format` (this format's own
 // sections), `scaled` (what a cell tells) and `calls`; above it `c_words` (the calls for C and Rust).
+#![tactic(auto)]
+
 ghost use Rattle.std.specs.Prelude.{◌≡◌, ◌⊎◌, ◌+◌, ◌*◌, ◌/◌, ◌≤◌, ◌<◌, length};
 ghost use Rattle.rules.specs.Rules.{field};
 ghost use Rattle.scaled.specs.Scaled.{RightCell};
@@ -15,7 +17,7 @@ use sections::{Cut, Grid, Judged, Refusal, Time};
 use walks::Walked;
 
 // What is common to all cuts of a file.
-#[derive(Drop)]
+#[derive(Clone, Copy)]
 pub struct DualSummary {
     pub parameter: u8,
     pub time: Time,
@@ -23,13 +25,13 @@ pub struct DualSummary {
     pub cuts: usize,
 }
 
-#[derive(Drop)]
+#[derive(Clone, Copy)]
 pub enum DualOpened {
     File(DualSummary),
     Refused(Refusal),
 }
 
-#[derive(Drop)]
+#[derive(Clone, Copy)]
 pub enum DualCut {
     Cut(Grid),
     Refused(Refusal),

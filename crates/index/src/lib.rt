@@ -1,6 +1,8 @@
 // An index of a cut's rays (FORMAT.md, "Rays by a record"): where in the data each ray begins, and what decoding from such a place gives. specs/Index.antt says both. The data is bare octets
 // here, and for decoding from a record nothing is asked of it. Below it stands `runs`; above it `cuts`, which knows the data of a cut, and `records`, whose calls make the
 // file's checks.
+#![tactic(auto)]
+
 ghost use Rattle.std.specs.Prelude.{true, cond, ◌≡◌, ◌-◌, ◌≤◌, ◌<◌, length, take, leb};
 ghost use Rattle.runs.specs.Run.{levels, opens};
 ghost use Rattle.lent.specs.Lent.{front};
@@ -11,7 +13,7 @@ use runs::{RunInHand, Step};
 
 // Where a ray begins: the offset in the data of the level octet whose run holds its first bin, and how many bins of that run came before.
 #[repr(C)]
-#[derive(Drop)]
+#[derive(Clone, Copy)]
 pub struct RayRecord {
     pub offset: u32,
     pub before: u32,
@@ -137,7 +139,7 @@ pub fn fits(octets: &[u8], v: u8, nb: usize, rec: RayRecord) -> bool
 
 // The walk over the runs of a cut's data, ray by ray: the record made last; where the data stands in the octets lent, V and the bins of a
 // ray; the first bin of the next ray; and the run in hand.
-#[derive(Drop)]
+#[derive(Clone, Copy)]
 pub struct Pace {
     pub rec: RayRecord,
     pub from: usize,

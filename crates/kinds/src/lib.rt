@@ -1,11 +1,13 @@
 // The kinds of a stretch, each with its number and its word: specs/KindTable.antt has them as one table, and what is said of a kind anywhere is taken from here.
 // Below stands `lent` (a word is put there); above stand `values` (which kind a reading is), `stretches` (numbers in entries) and `lines` (words).
+#![tactic(auto)]
+
 ghost use Rattle.std.specs.Prelude.{◌≡◌, ◌+◌, ◌≤◌, length};
 ghost use Rattle.lent.specs.Put.{Put};
 ghost use Rattle.kinds.specs.KindTable.{kind_number, kind_word, kind_by, word_room};
 
 // No number; a value under the threshold; one at the threshold or over it.
-#[derive(Drop)]
+#[derive(Clone, Copy)]
 pub enum Kind {
     Missing,
     Under,
@@ -30,7 +32,7 @@ pub fn number_of(kind: Kind) -> u32
 }
 
 // What a number stands for.
-#[derive(Drop)]
+#[derive(Clone, Copy)]
 pub enum Numbered {
     Is(Kind),
     NoKind,

@@ -1,6 +1,8 @@
 // Lent memory: what it holds after a call has written to it (specs/Lent.antt), and what every writer of octets goes by: octets copied to a place,
 // big-endian numbers of two, four and eight octets, which answer the place past what they put; and one octet or number over a row of places. Below it stands `octets`, which says how a
 // number is written; above it stands whatever writes to lent memory.
+#![tactic(auto)]
+
 ghost use Rattle.std.specs.Prelude.{◌≡◌, ◌+◌, ◌-◌, ◌≤◌, min, length, replicate};
 ghost use Rattle.octets.specs.Octets.{in_octets};
 ghost use Rattle.lent.specs.Lent.{placed};

@@ -1,6 +1,8 @@
 // The text of the stretch list, line by line: FORMAT.md, "The lister". specs/Text.antt has each line as octets; each function here puts one at a
 // place of lent octets and answers the place past it. Below it stand `runs` (what stands at a place) and `stretches` (entries as words); above it
 // `listing`, the whole text of a file.
+#![tactic(auto)]
+
 ghost use Rattle.std.specs.Prelude.{◌≡◌, ◌++◌, ◌+◌, ◌*◌, ◌≤◌, ◌<◌, length, get_or};
 ghost use Rattle.kinds.specs.KindTable.{kind_by};
 ghost use Rattle.stretches.specs.Stretch.{per_entry};

@@ -1,4 +1,6 @@
 // The lister: FORMAT.md, "The lister".
+#![tactic(auto)]
+
 fn main() {
     let mut file = [0u8; pages::FILE];
     let mut words = [0u32; pages::WORDS];

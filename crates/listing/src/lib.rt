@@ -2,6 +2,8 @@
 // gives the standing before the first octet, and `page` writes the next octets of the text and hands the next standing on (proofs/Pages.antt: the
 // pages joined are the text). The file's checks are made once. The words of a listing are kept between pages, so that a cut is listed in few
 // portions, however small the page. Below it stand `walks`, `cuts`, `stretches` and `lines`; above it the programs.
+#![tactic(auto)]
+
 ghost use Rattle.std.specs.Prelude.{◌≡◌, false, List, ℕ, ◌+◌, ◌≤◌, ◌<◌, length};
 ghost use Rattle.sections.specs.Refusal.{number_of};
 ghost use Rattle.stretches.specs.Stretch.{per_entry};
@@ -23,7 +25,7 @@ const LINES: usize = 256;
 const ROOM: usize = LINES * lines::ENTRY_ROOM;
 
 // Part of a cut: the cut, the point from which its entries are to come, and how many entries came before.
-#[derive(Drop)]
+#[derive(Clone, Copy)]
 pub struct CutPart {
     pub number: usize,
     pub cuts: usize,
@@ -34,7 +36,7 @@ pub struct CutPart {
 }
 
 // Where the writing stands.
-#[derive(Drop)]
+#[derive(Clone, Copy)]
 pub enum Progress {
     // the line of a refusal is all there is
     Refused(Refusal),
@@ -50,14 +52,14 @@ pub enum Progress {
 }
 
 // Where the octets written so far end, and where the writing then stands.
-#[derive(Drop)]
+#[derive(Clone, Copy)]
 struct AfterStep {
     at: usize,
     next: Progress,
 }
 
 // How many octets were written, and where the writing then stands.
-#[derive(Drop)]
+#[derive(Clone, Copy)]
 pub struct Written {
     pub len: usize,
     pub next: Progress,

@@ -1,6 +1,8 @@
 // Template 7.200, writing: levels to octets, by FORMAT.md, "Run-length rule". What it writes reads back as the same levels (proofs/ReadBack.antt), and no octets
 // that do are fewer (proofs/Shortest.antt).
 // Below stands the crate `runs`, which has the one definition of decoding; above stands `bare`, with the call.
+#![tactic(auto)]
+
 ghost use Rattle.std.specs.Prelude.{◌≡◌, ◌≤◌, ◌+◌, length, leb};
 ghost use Rattle.lent.specs.Lent.{front, placed};
 ghost use Rattle.packing.specs.Write.{greatest, digits_of, code, written};

@@ -1,5 +1,7 @@
 // Writes the list of a file to a descriptor, page by page: the loop that both programs have. What is written is said by `listing`; no contract speaks of
 // what a descriptor takes.
+#![tactic(auto)]
+
 ghost use Rattle.std.specs.Prelude.{◌≤◌, length};
 ghost use Rattle.stretches.specs.Stretch.{per_entry};
 ghost use Rattle.listing.specs.Progress.{step_room};

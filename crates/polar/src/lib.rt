@@ -1,6 +1,8 @@
 // THE CALLS of a run-length packed file: FORMAT.md, "Calls". Each is lent the whole file, makes all the file's checks itself, then answers or refuses by 10, then 11;
 // none asks anything of its caller. What each answers, and what it leaves in lent memory, is one definition of specs/. Below it stand `walks` (the
 // file's checks) and `cuts` (one cut of an accepted file), and `calls` (what a call on a file comes to); above it `demands` and `c_words` (the calls for C and Rust).
+#![tactic(auto)]
+
 ghost use Rattle.std.specs.Prelude.{◌≡◌, ◌&&◌, min, length};
 ghost use Rattle.lent.specs.Lent.{front};
 ghost use Rattle.values.specs.Ray.{marks_of, values_of};
@@ -22,7 +24,7 @@ use values::{Product, Reading};
 use walks::Walked;
 
 // What is common to all cuts of a file.
-#[derive(Drop)]
+#[derive(Clone, Copy)]
 pub struct Summary {
     pub product: Product,
     pub time: Time,
@@ -30,20 +32,20 @@ pub struct Summary {
     pub cuts: usize,
 }
 
-#[derive(Drop)]
+#[derive(Clone, Copy)]
 pub enum Opened {
     File(Summary),
     Refused(Refusal),
 }
 
-#[derive(Drop)]
+#[derive(Clone, Copy)]
 pub enum Elevation {
     Missing,
     Hundredths(i32),
 }
 
 // A cut as the file describes it, each number as read.
-#[derive(Drop)]
+#[derive(Clone, Copy)]
 pub struct CutInfo {
     pub grid: Grid,
     pub start_azimuth: u16,
@@ -51,13 +53,13 @@ pub struct CutInfo {
     pub elevation: Elevation,
 }
 
-#[derive(Drop)]
+#[derive(Clone, Copy)]
 pub enum CutAnswer {
     Cut(CutInfo),
     Refused(Refusal),
 }
 
-#[derive(Drop)]
+#[derive(Clone, Copy)]
 pub enum StretchAnswer {
     Listed(Listing),
     Refused(Refusal),

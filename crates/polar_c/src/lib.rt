@@ -1,6 +1,8 @@
 // The library's public calls by C's rules, for C and Rust: numbers and slices alone. A slice passes as a pointer and a length, an array as a pointer.
 // Each call returns 0, or a refusal in one word: FORMAT.md's number + 256 x its place. The words of an answer go to a lent array; on a refusal nothing lent
 // has changed. Nothing is decided here: the crates below decide, and `c_words` says how each of their answers goes out.
+#![tactic(auto)]
+
 ghost use Rattle.std.specs.Prelude.{◌≡◌};
 ghost use Rattle.polar.specs.Stretching.{house};
 ghost use Rattle.polar_c.specs.Runs.{RunCheckCall, RunReadCall, RunWriteCall};

@@ -2,6 +2,8 @@
 // lent the whole file and asks nothing of its caller. Building makes all the file's checks, then answers or refuses by 10, then 11; a call by a record makes all but 8,
 // then 10, 11, 13. Below it stand `walks`, `cuts`, `index` (records of bare data) and `calls`; above it `indexed` (their theorems)
 // and `c_words` (the calls for C and Rust).
+#![tactic(auto)]
+
 ghost use Rattle.std.specs.Prelude.{◌≡◌, cond, min, length};
 ghost use Rattle.lent.specs.Lent.{front};
 ghost use Rattle.index.specs.Pace.{Going};
@@ -23,7 +25,7 @@ use sections::{Cut, Judged, Why};
 // ---- building
 
 // What building goes by: the walk before the first ray, how many rays to lay, and what to answer.
-#[derive(Drop)]
+#[derive(Clone, Copy)]
 pub struct Task {
     pub pace: Pace,
     pub rays: usize,

@@ -1,5 +1,7 @@
 // The rules on a section's named fields: FORMAT.md, "Sections", each section's rules as one chain of tests without branches. Below it stands
 // `octets`; above it `sections`, which puts the sections in order, and the two formats, `base_format` and `dual_format`.
+#![tactic(auto)]
+
 ghost use Rattle.std.specs.Prelude.{◌≡◌, ℕ, ◌*◌, length};
 ghost use Rattle.octets.specs.Octets.{be};
 ghost use Rattle.rules.specs.Rules.{field, meets, meets_all, within, magnitude, rules0, rules1, grid_rules, mode_rule, rules6, rules8};

@@ -2,13 +2,15 @@
 // specs/Run.antt holds the one definition of decoding, `levels`. The functions ask of their callers what is known to them; the calls that ask nothing are in
 // `bare`. Below stands `lent`; the crates `scan` (whether data gives its bins), `packing` (writing) and `stretches` (the list, run by run) stand above and go by
 // `levels`, `gives` and their laws.
+#![tactic(auto)]
+
 ghost use Rattle.std.specs.Prelude.{true, ◌≡◌, ◌≤◌, ◌<◌, ◌-◌, length, get_or, leb};
 ghost use Rattle.lent.specs.Lent.{front, between};
 ghost use Rattle.runs.specs.Run.{levels, opens, run_len};
 ghost use Rattle.runs.specs.Inner.{known_step, cut_step, InHand, Holds};
 
 // A step over runs: the run at a place, with the place past its digits; or the end, where nothing more is wanted or nothing more is there.
-#[derive(Drop)]
+#[derive(Clone, Copy)]
 pub enum Step {
     Run { level: u8, len: usize, next: usize },
     End,
@@ -96,7 +98,7 @@ pub fn excess(x: usize, y: usize) -> usize
 }
 
 // A walk over runs has one in hand: the place of its level octet, the bins before it and up to its end, and the place past its digits.
-#[derive(Drop)]
+#[derive(Clone, Copy)]
 pub struct RunInHand {
     pub at: usize,
     pub bins: usize,

@@ -1,4 +1,6 @@
 // Lists each file that an argument names, under its name: what the lister writes of many files, in one run.
+#![tactic(auto)]
+
 use libc::STDOUT_FILENO;
 
 fn sample(i: usize, words: &mut [u32; pages::WORDS], text: &mut [u8; pages::TEXT]) {

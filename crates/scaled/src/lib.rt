@@ -1,11 +1,13 @@
 // Simple packing: the number that a cell of a dual-polarisation file tells, from the cell's own number Z and section 5's R, E and D. It is
 // worked out by one sum and one division of 64-bit floats, and its distance from the exact number is promised over whole numbers.
 // Stands on `fraction`, the laws of rounding. Above it stand `dual_format`, the checks of a dual-polarisation file, and `dualpol`, its calls.
+#![tactic(auto)]
+
 ghost use Rattle.std.specs.Prelude.{◌≡◌, true, ◌⊎◌, ◌-◌, ◌^◌, ◌≤◌};
 ghost use Rattle.scaled.specs.Scaled.{finite_single, scaled_value, cell_of, RightCell, Packing};
 
 // No value, or the value.
-#[derive(Drop)]
+#[derive(Clone, Copy)]
 pub enum Cell {
     Missing,
     Value(f64),

@@ -1,10 +1,12 @@
 // The scan: whether octets give exactly the bins wanted, by FORMAT.md, "Run-length rule", once over the data and with no level stored. It asks that V and the bins are in range. Below it stand `runs`, which says what octets
 // give, and `sums`, which counts a block of them with no branch for an octet; above it `bare` (run read, run check) and `base_format` (the data of a file).
+#![tactic(auto)]
+
 ghost use Rattle.std.specs.Prelude.{◌≡◌, ◌≤◌, length, drop};
 ghost use Rattle.scan.specs.Inner.{scanned, moved};
 
 // Whether octets give exactly the bins wanted; if not, the offset of the octet at fault, which is their length where there are too few.
-#[derive(Drop)]
+#[derive(Clone, Copy)]
 pub enum Scan {
     Exact,
     Off(usize),
@@ -64,7 +66,7 @@ pub fn by_runs(octets: &[u8], v: u8, n: usize) -> Scan
 }
 
 // How far whole blocks of data go, and the bins still to come from there on.
-#[derive(Drop)]
+#[derive(Clone, Copy)]
 pub struct Far {
     pub at: usize,
     pub left: usize,

@@ -4,6 +4,8 @@
 //
 // What is to be believed stands in specs/; proofs/Exact.antt has the theorems that a verdict accepts and refuses exactly the files of
 // specs/Accepted.antt and specs/Refused.antt, for every format whose checks say what it says.
+#![tactic(auto)]
+
 ghost use Rattle.std.specs.Prelude.{◌≡◌, cond, ◌+◌, ◌≤◌, length, leb};
 ghost use Rattle.rules.specs.Fields.{length_at};
 ghost use Rattle.sections.specs.Refusal.{number_of, refuse};
@@ -12,7 +14,7 @@ ghost use Rattle.sections.specs.Checks.{follows, framed, room_for_cut, closes, c
 ghost use Rattle.sections.specs.Verdict.{first_fault};
 
 // Why a call on a file is refused: one case for each number of specs/Refusal.antt. (12 is of the run calls alone: section 5 holds V.)
-#[derive(Drop)]
+#[derive(Clone, Copy)]
 pub enum Why {
     // 1: the lent file is under 20 or over 8,388,608 octets
     FileSize,
@@ -43,14 +45,14 @@ pub enum Why {
 }
 
 // A refusal: why, and where: the start of the section concerned, for 8 the octet at fault, 0 where no section is concerned.
-#[derive(Drop)]
+#[derive(Clone, Copy)]
 pub struct Refusal {
     pub why: Why,
     pub place: usize,
 }
 
 // The places of a cut's sections.
-#[derive(Drop)]
+#[derive(Clone, Copy)]
 pub struct Cut {
     pub section3: usize,
     pub section4: usize,
@@ -59,7 +61,7 @@ pub struct Cut {
 }
 
 // When a file was observed, as its section 1 says.
-#[derive(Drop)]
+#[derive(Clone, Copy)]
 pub struct Time {
     pub year: u16,
     pub month: u8,
@@ -70,7 +72,7 @@ pub struct Time {
 }
 
 // What every section 3 says, each number as read.
-#[derive(Drop)]
+#[derive(Clone, Copy)]
 pub struct Grid {
     pub nb: u32,
     pub nr: u32,
@@ -81,14 +83,14 @@ pub struct Grid {
 }
 
 // What the checks of a section come to.
-#[derive(Drop)]
+#[derive(Clone, Copy)]
 pub enum Judged {
     Accepted,
     Refused(Refusal),
 }
 
 // What the checks of a section ask of the sections before it.
-#[derive(Drop)]
+#[derive(Clone, Copy)]
 pub struct Context {
     // the number of the section before
     pub previous: u8,

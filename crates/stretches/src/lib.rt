@@ -3,6 +3,8 @@
 // portions of a fetching join to it. Stands on `runs` (a cut's levels) and `values` (the kind of a level); `polar` calls it for a file.
 //
 // The work goes straight over the runs: in time it is the data's octets and the entries, whatever the number of bins.
+#![tactic(auto)]
+
 ghost use Rattle.std.specs.Prelude.{true, ◌≡◌, [], ◌∷◌, ◌+◌, ◌*◌, ◌≤◌, ◌<◌, length};
 ghost use Rattle.std.proofs.lemmas.List.Edits.{sets};
 ghost use Rattle.values.specs.Published.{level_count};
@@ -21,7 +23,7 @@ pub const PER_ENTRY: usize = 4;
 pub const HOUSE: i32 = 4000;
 
 // How many entries were written, and the point where the next call goes on.
-#[derive(Drop)]
+#[derive(Clone, Copy)]
 pub struct Listing {
     pub count: usize,
     pub ray: usize,

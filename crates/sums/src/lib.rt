@@ -1,5 +1,7 @@
 // The bins of a block of octets by sums of digits, with no branch for an octet: a digit past k others of its run weighs B^k, so the digits past 0, past 1, past 2 .. others are each added up over the whole
 // block, and a sum is multiplied once. It asks that V is in range and a whole block there. Below it stands `runs`, which says what octets give; above it `scan`, which goes from block to block.
+#![tactic(auto)]
+
 ghost use Rattle.std.specs.Prelude.{◌≡◌, ◌⊎◌, ◌-◌, ◌≤◌, ◌<◌, length, get_or};
 ghost use Rattle.sums.specs.Inner.{total, alone, behind, Laid, Shifted, Fronts};
 
@@ -77,7 +79,7 @@ fn shift(octets: &[u8], v: u8, row: &mut [u8]) -> u16
 }
 
 // The octets of a block before its last level, and what they add where every weight is 1.
-#[derive(Drop)]
+#[derive(Clone, Copy)]
 pub struct Whole {
     pub octets: usize,
     pub sum: u16,
@@ -103,7 +105,7 @@ fn whole_runs(octets: &[u8], v: u8, sum: u16, row: &mut [u8]) -> Whole
 }
 
 // Octets at the front of a block, and the bins that they give; none where the sums do not tell.
-#[derive(Drop)]
+#[derive(Clone, Copy)]
 pub struct Front {
     pub octets: usize,
     pub bins: usize,

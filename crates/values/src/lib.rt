@@ -4,6 +4,8 @@
 //
 // A constant table that a loop indexes is laid out anew at each use. So whatever loops over levels is lent the table as a slice,
 // and one function on the product above it has the table and lends it.
+#![tactic(auto)]
+
 ghost use Rattle.std.specs.Prelude.{◌≡◌, ◌≤◌, ◌<◌, ◌-◌, length, replicate};
 ghost use Rattle.runs.specs.Run.{levels};
 ghost use Rattle.lent.specs.Lent.{placed, between};
@@ -22,14 +24,14 @@ use runs::Step;
 mod tables;
 
 // Parameter 1 and parameter 2.
-#[derive(Drop)]
+#[derive(Clone, Copy)]
 pub enum Product {
     Reflectivity,
     Velocity,
 }
 
 // What a level tells: nothing, or a number of hundredths.
-#[derive(Drop)]
+#[derive(Clone, Copy)]
 pub enum Reading {
     Missing,
     Number(i32),

@@ -1,6 +1,8 @@
 // The walk over the sections of a file, which answers the verdict on any octets: accepted, with the number of cuts and the places of one cut's sections;
 // or the refusal. One walk for both formats, which differ in the checks of their own sections alone. Below it stand `sections` (what every file has),
 // `base_format` (run-length packed files) and `dual_format` (dual-polarisation files); above it `calls`, by which every call finds its cut, and `listing`.
+#![tactic(auto)]
+
 ghost use Rattle.std.specs.Prelude.{◌≡◌, [], ◌+◌, ◌^◌, ◌≤◌, ◌<◌, length};
 ghost use Rattle.rules.specs.Fields.{length_at};
 ghost use Rattle.sections.specs.Checks.{section_checks, checks_at};
@@ -15,20 +17,20 @@ ghost use Rattle.walks.specs.Walk.{past, cut_ended, chosen_after, Ready, Sound, 
 use sections::{Context, Cut, Judged, Refusal, Why};
 
 // An accepted file: how many cuts it has, and the one that was asked for.
-#[derive(Drop)]
+#[derive(Clone, Copy)]
 pub struct Found {
     pub cuts: usize,
     pub cut: Cut,
 }
 
-#[derive(Drop)]
+#[derive(Clone, Copy)]
 pub enum Walked {
     Accepted(Found),
     Refused(Refusal),
 }
 
 // What a file is read as.
-#[derive(Drop)]
+#[derive(Clone, Copy)]
 enum ReadAs {
     RunLength,
     DualPolarisation,
@@ -36,7 +38,7 @@ enum ReadAs {
 }
 
 // Where the walk stands, with the number of the section before, the cuts ended and the places of the sections that later checks go by.
-#[derive(Drop)]
+#[derive(Clone, Copy)]
 struct State {
     at: usize,
     previous: u8,
@@ -47,7 +49,7 @@ struct State {
     section5: usize,
 }
 
-#[derive(Drop)]
+#[derive(Clone, Copy)]
 enum Step {
     Next(State),
     Done,
@@ -56,7 +58,7 @@ enum Step {
 
 // Where the walk ended: what the last checks came to, the cuts ended and the chosen one. One shape for both ways out, so that the compiler has nothing to
 // keep for the way out while it scans data.
-#[derive(Drop)]
+#[derive(Clone, Copy)]
 struct Ended {
     judged: Judged,
     cuts: usize,

@@ -1,0 +1,12 @@
+-- By the cases of the answer; a refusal writes nothing.
+use mathlib.Core.Path.{refl}
+use Rattle.c_words.proofs.put_stretches.Goals as goal
+
+pub word_of-requires : goal.word_of-requires
+word_of-requires c = rw c.in-Refused.is at c.requires
+
+pub returns-in-Listed : goal.returns-in-Listed
+returns-in-Listed c = rw c.in-Listed.is (refl, refl)
+
+pub returns-in-Refused : goal.returns-in-Refused
+returns-in-Refused c = rw c.in-Refused.is (c.word_of.ensures, refl)

@@ -1,0 +1,6 @@
+-- By the cases of the answer; a refusal writes nothing.
+use mathlib.Core.Path.{refl}
+use Rattle.c_words.proofs.put_write.Goals as goal
+
+pub returns-in-Wrote : goal.returns-in-Wrote
+returns-in-Wrote c = rw c.in-Wrote.is (refl, refl)

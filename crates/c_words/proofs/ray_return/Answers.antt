@@ -1,0 +1,8 @@
+-- By the cases of the answer; a refusal goes out in its word.
+use Rattle.c_words.proofs.ray_return.Goals as goal
+
+pub word_of-requires : goal.word_of-requires
+word_of-requires c = rw c.in-Refused.is at c.requires
+
+pub returns-in-Refused : goal.returns-in-Refused
+returns-in-Refused c = rw c.in-Refused.is c.word_of.ensures

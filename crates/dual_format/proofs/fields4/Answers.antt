@@ -1,0 +1,21 @@
+-- One `both` for each rule; `flat` turns the chain that the code tests into the list of rules.
+use mathlib.Core.Bool.{true}
+use Rattle.dual_format.specs.Rules.{rules4}
+use mathlib.Core.Path.{◌∙◌}
+use Rattle.rules.proofs.Chains.{both, flat}
+use Rattle.dual_format.proofs.fields4.Goals as goal
+
+pub returns : goal.returns
+unfolding rules4
+returns c = (both (both (both (both (both (both (both (both (both (both c.within16.ensures
+    c.within16-2.ensures)
+    c.within8.ensures)
+    c.within8-2.ensures)
+    c.within8-3.ensures)
+    c.within8-4.ensures)
+    c.mode_ok.ensures)
+    c.within8-5.ensures)
+    c.within8-6.ensures)
+    c.within8-7.ensures)
+    c.within16-3.ensures)
+    ∙ flat true c.args.s.now c.args.at (rules4 c.args.parameter c.args.site)

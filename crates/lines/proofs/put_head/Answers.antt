@@ -1,0 +1,10 @@
+-- `put_head` meets its contract, piece by piece.
+use Rattle.lines.specs.Text.{head_line}
+use Rattle.lent.proofs.Putting.{then}
+use Rattle.lines.proofs.put_head.Goals as goal
+
+pub returns : goal.returns
+unfolding head_line
+returns c = 
+    then c.put_named-a.ensures.0
+    (then c.put_named-b.ensures.0 (then c.put_named-c.ensures.0 (then c.put_named-d.ensures.0 c.put_last.ensures)))

@@ -1,0 +1,36 @@
+-- By the cut that was sought, which is good (`calls` Finding.antt).
+use Rattle.calls.proofs.Finding.{on_found, on_refused, cut_found, good_cut}
+use Rattle.calls.specs.Cuts.{if_written}
+use Rattle.polar.specs.Rays.{ray_answer, marks_after, values_after}
+use Rattle.cuts.specs.Bins.{ray_in}
+use Rattle.base_format.specs.Parts.{product_in}
+use Rattle.sections.specs.declared.Cut.{Cut}
+use Rattle.values.specs.Ray.{marks_of, values_of}
+use mathlib.Core.Path.{refl, sym, ◌∙◌, ap}
+use Rattle.polar.proofs.ray_values.Goals as goal
+
+pub ray_values_on-requires : goal.ray_values_on-requires
+ray_values_on-requires c = 
+    let told = sym c.find.ensures ∙ c.in-Cut.is in
+    good_cut _ _ _ told
+
+pub returns-in-Cut : goal.returns-in-Cut
+unfolding ray_answer marks_after values_after
+returns-in-Cut c = 
+    let told = sym c.find.ensures ∙ c.in-Cut.is in
+    
+    
+    let same = sym (cut_found _ _ _ told) in
+    record {
+      answer = c.ray_values_on.ensures.0 ∙ sym (on_found _ _ _ _ _ told);
+      marked =
+          c.ray_values_on.ensures.1.0
+          ∙ ap (λ (x : Cut). if_written c.ray_values_on.result (marks_of (product_in c.args.file.now x) (ray_in c.args.file.now x c.args.ray) c.args.marks.now) c.args.marks.now) same;
+      valued =
+          c.ray_values_on.ensures.1.1
+          ∙ ap (λ (x : Cut). if_written c.ray_values_on.result (values_of (product_in c.args.file.now x) (ray_in c.args.file.now x c.args.ray) c.args.values.now) c.args.values.now) same;
+    }
+
+pub returns-in-Refused : goal.returns-in-Refused
+unfolding ray_answer marks_after values_after
+returns-in-Refused c = record { answer = sym (on_refused _ _ _ _ _ (sym c.find.ensures ∙ c.in-Refused.is)); marked = refl; valued = refl }

@@ -1,0 +1,32 @@
+-- By the cut that was sought (`calls` Finding.antt); where every check but 8 passes, its data alone may be anything.
+use Rattle.calls.proofs.Finding.{on_found, on_refused, cut_found, any_cut}
+use Rattle.calls.specs.Cuts.{if_written}
+use Rattle.records.specs.Records.{from_answer, marks_from, values_from}
+use Rattle.cuts.specs.Records.{ray_from}
+use Rattle.base_format.specs.Parts.{product_in}
+use Rattle.values.specs.Ray.{marks_of, values_of}
+use Rattle.sections.specs.declared.Cut.{Cut}
+use mathlib.Core.Path.{refl, sym, ◌∙◌, ap}
+use Rattle.records.proofs.ray_values_from.Goals as goal
+
+pub ray_values_from_on-requires : goal.ray_values_from_on-requires
+ray_values_from_on-requires c = 
+    let told = sym c.find_any.ensures ∙ c.in-Cut.is in
+    any_cut _ _ _ told
+
+pub returns-in-Cut : goal.returns-in-Cut
+unfolding from_answer marks_from values_from
+returns-in-Cut c = 
+    let told = sym c.find_any.ensures ∙ c.in-Cut.is in
+    
+    
+    let same = sym (cut_found _ _ _ told) in
+    record {
+      answer = c.ray_values_from_on.ensures.0 ∙ sym (on_found _ _ _ _ _ told);
+      marked = c.ray_values_from_on.ensures.1.0 ∙ ap (λ (x : Cut). if_written c.ray_values_from_on.result (marks_of (product_in c.args.file.now x) (ray_from c.args.file.now x c.args.rec) c.args.marks.now) c.args.marks.now) same;
+      valued = c.ray_values_from_on.ensures.1.1 ∙ ap (λ (x : Cut). if_written c.ray_values_from_on.result (values_of (product_in c.args.file.now x) (ray_from c.args.file.now x c.args.rec) c.args.values.now) c.args.values.now) same;
+    }
+
+pub returns-in-Refused : goal.returns-in-Refused
+unfolding from_answer marks_from values_from
+returns-in-Refused c = record { answer = sym (on_refused _ _ _ _ _ (sym c.find_any.ensures ∙ c.in-Refused.is)); marked = refl; valued = refl }

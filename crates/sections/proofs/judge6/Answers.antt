@@ -1,0 +1,19 @@
+-- The length, then the fields, which are read in the section's own octets.
+use mathlib.Core.Path.{refl, sym, ◌∙◌}
+use Prim.Native.Nat.{◌+◌, ◌≤◌}
+use native.Mathlib.Omega.{arith}
+use lib.ListN.{length}
+use borrow.Author.Tests.{eq-eqb, ne_eqb}
+use Rattle.rules.specs.Rules.{rules6}
+use Rattle.rules.proofs.Moved.{part_rules}
+use Rattle.sections.proofs.judge6.Goals as goal
+
+pub returns-then-length_at-ne6 : goal.returns-then-length_at-ne6
+returns-then-length_at-ne6 c = rw (ne_eqb _ 6 (λ e. c.if-length_at-ne6.true (c.length_at.ensures ∙ e))) c.refused.ensures
+
+pub returns : goal.returns
+unfolding rules6
+returns c = 
+    let inside : c.args.at + 6 ≤ length c.args.s.now = omega (arith, c.length_at.ensures, c.requires) in
+    let part = part_rules c.args.s.now c.args.at (c.args.at + 6) inside 6 (omega arith) rules6 refl in
+    rw (eq-eqb _ 6 (sym c.length_at.ensures ∙ c.if-length_at-ne6.false), c.check.ensures, c.accepted.ensures, c.fields6-fields6.ensures ∙ part)

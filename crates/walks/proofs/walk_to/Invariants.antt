@@ -1,0 +1,10 @@
+use Rattle.walks.proofs.Along.{Along}
+use Rattle.walks.specs.Formats.{own_of}
+use Prim.Native.Nat.{◌-◌}
+use Rattle.walks.proofs.walk_to.Given as goal
+
+abbrev pub invariant-loop-refusal : goal.invariant-loop-refusal
+invariant-loop-refusal l = Along (own_of l.format) l.s l.end l.want l.st l.chosen
+
+abbrev pub decreases-loop-refusal : goal.decreases-loop-refusal
+decreases-loop-refusal l = l.end - l.st.at
