@@ -18,7 +18,7 @@ use Rattle.sections.specs.declared.Cut.{Cut}
 use Rattle.sections.specs.declared.Refusal.{Refusal}
 use Rattle.sections.specs.declared.Why.TheVariants.{Argument}
 use Rattle.calls.specs.Cuts.{on_file, on_cut}
-use Rattle.calls.specs.Reasons.{Reason, by_file, no_cut, on_cut_lem}
+use Rattle.calls.specs.Reasons.{Reason, by_file, no_cut, on_its_cut}
 
 module _ (own : FormatChecks) (format : Format) (exact : Exact own format) (s : List ℕ) where
   -- ── a call on the whole file ──
@@ -94,9 +94,9 @@ module _ (own : FormatChecks) (format : Format) (exact : Exact own format) (s : 
         by_verdict Refused some i (Refused q) (Reason own format s i OnCut q)
         (λ r k e. rw (sym (same r e)) (by_file k))
         (λ cs k le e. rw (sym (same (refuse Argument 0) e)) (no_cut k le))
-        (λ cs k lt e. on_cut_lem k lt (why (get_or cs i default_cut) e))
+        (λ cs k lt e. on_its_cut k lt (why (get_or cs i default_cut) e))
 
     pub by_reason : (q : Refusal) → ((c : Cut) (r : Refusal) → OnCut c r → some c ≡ Refused r) → Reason own format s i OnCut q → on_cut Refused some i (verdict_by own s) ≡ Refused q
     by_reason q why (by_file h) = cut_refused Refused some i q h
     by_reason q why (no_cut {cs = cs} k le) = cut_missing Refused some i cs k le
-    by_reason q why (on_cut_lem {cs = cs} k lt w) = cut_accepted Refused some i cs k lt ∙ why (get_or cs i default_cut) q w
+    by_reason q why (on_its_cut {cs = cs} k lt w) = cut_accepted Refused some i cs k lt ∙ why (get_or cs i default_cut) q w

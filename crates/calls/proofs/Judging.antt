@@ -20,7 +20,7 @@ use Rattle.sections.specs.declared.Refusal.{Refusal}
 use Rattle.sections.specs.declared.Judged.TheVariants as J
 use Rattle.sections.specs.declared.Why.TheVariants.{Argument, Room, Record}
 use Rattle.calls.specs.Cuts.{on_cut, judged, judged_by, if_written}
-use Rattle.calls.specs.Reasons.{CutReason, by_argument, by_room, by_record_lem, Reason}
+use Rattle.calls.specs.Reasons.{CutReason, by_argument, by_room, by_record, Reason}
 use Rattle.calls.specs.declared.RayAnswer.{RayAnswer}
 use Rattle.calls.specs.declared.RayAnswer.TheVariants as R
 use Rattle.calls.specs.declared.BinAnswer.{BinAnswer}
@@ -90,14 +90,14 @@ module _ {A : Type 0} {Refused : Refusal → A} {Answered : A → Type 0} {Wrong
   judged_reason false b f answer k q e = rw (sym (k.same (refuse Argument 0) q e)) (by_argument (k.wrong.0 refl))
   judged_reason true false f answer k q e = rw (sym (k.same (refuse Room 0) q e)) (by_room (λ w. false≢true (sym (k.wrong.1 w))) (k.short.0 refl))
   judged_reason true true false answer k q e =
-      rw (sym (k.same (refuse Record c.section7) q e)) (by_record_lem (λ w. false≢true (sym (k.wrong.1 w))) (λ w. false≢true (sym (k.short.1 w))) (k.unfit.0 refl))
+      rw (sym (k.same (refuse Record c.section7) q e)) (by_record (λ w. false≢true (sym (k.wrong.1 w))) (λ w. false≢true (sym (k.short.1 w))) (k.unfit.0 refl))
   judged_reason true true true answer k q e = absurd (k.not_refused q (subst Answered e k.answered))
 
   reason_judged : (a b f : Bool) (answer : A) → Judges Refused Answered a b f answer Wrong Short Unfit → (q : Refusal) → CutReason c Wrong Short Unfit q
       → judged Refused c a b f answer ≡ Refused q
   reason_judged a b f answer k q (by_argument w) = rw (k.wrong.1 w)
   reason_judged a b f answer k q (by_room n w) = rw (holds a k.wrong n, k.short.1 w)
-  reason_judged a b f answer k q (by_record_lem n m w) = rw (holds a k.wrong n, holds b k.short m, k.unfit.1 w)
+  reason_judged a b f answer k q (by_record n m w) = rw (holds a k.wrong n, holds b k.short m, k.unfit.1 w)
 
   judged_one : (a b f : Bool) (answer : A) → Judges Refused Answered a b f answer Wrong Short Unfit
       → Answered (judged Refused c a b f answer) ⊎ ((q : Refusal) × (judged Refused c a b f answer ≡ Refused q))

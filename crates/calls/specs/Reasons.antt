@@ -14,7 +14,7 @@ use Rattle.sections.specs.declared.Why.TheVariants.{Argument, Room, Record}
 pub data CutReason (c : Cut) (Wrong Short Unfit : Type 0) : Refusal → Type 0 where
   by_argument : Wrong → CutReason c Wrong Short Unfit (refuse Argument 0)
   by_room : (Wrong → ⊥) → Short → CutReason c Wrong Short Unfit (refuse Room 0)
-  by_record_lem : (Wrong → ⊥) → (Short → ⊥) → Unfit → CutReason c Wrong Short Unfit (refuse Record c.section7)
+  by_record : (Wrong → ⊥) → (Short → ⊥) → Unfit → CutReason c Wrong Short Unfit (refuse Record c.section7)
 
 -- of a call that fills nothing, and of one that is lent memory and no record
 abbrev pub Asking : (Cut → Type 0) → Cut → Refusal → Type 0
@@ -30,4 +30,4 @@ BinFault s ray bin = Asking (λ c. (rays_in s c ≤ ray) ⊎ (bins_in s c ≤ bi
 pub data Reason (own : FormatChecks) (format : Format) (s : List ℕ) (i : ℕ) (OnCut : Cut → Refusal → Type 0) : Refusal → Type 0 where
   by_file : {r : Refusal} → RefusedBy own s r → Reason own format s i OnCut r
   no_cut : {cs : List Cut} → AcceptedBy format s cs → length cs ≤ i → Reason own format s i OnCut (refuse Argument 0)
-  on_cut_lem : {cs : List Cut} {r : Refusal} → AcceptedBy format s cs → i < length cs → OnCut (get_or cs i default_cut) r → Reason own format s i OnCut r
+  on_its_cut : {cs : List Cut} {r : Refusal} → AcceptedBy format s cs → i < length cs → OnCut (get_or cs i default_cut) r → Reason own format s i OnCut r

@@ -20,7 +20,7 @@ use Rattle.base_format.specs.Accepted.{base_format, any_data_format}
 use Rattle.base_format.proofs.Exact.{exact, any_exact}
 use Rattle.base_format.proofs.AnyData.{never_eight}
 use Rattle.cuts.specs.Records.{usable_in}
-use Rattle.calls.specs.Reasons.{by_file, no_cut, on_cut_lem, by_argument, by_room, by_record_lem}
+use Rattle.calls.specs.Reasons.{by_file, no_cut, on_its_cut, by_argument, by_room, by_record}
 use Rattle.calls.specs.declared.RayAnswer.{RayAnswer}
 use Rattle.calls.specs.declared.RayAnswer.TheVariants.{Written, Refused}
 use Rattle.calls.proofs.Judging.{Judges, refuses, answers_exactly, never, not_le, ray_judges}
@@ -67,9 +67,9 @@ module _ (s : List ℕ) (i ray : ℕ) (rec : RayRecord) where
   unfolding refuse
   from_never_8 room q (by_file h) = never_eight s q h
   from_never_8 room q (no_cut k le) = refl
-  from_never_8 room q (on_cut_lem k lt (by_argument w)) = refl
-  from_never_8 room q (on_cut_lem k lt (by_room w short)) = refl
-  from_never_8 room q (on_cut_lem k lt (by_record_lem w fits u)) = refl
+  from_never_8 room q (on_its_cut k lt (by_argument w)) = refl
+  from_never_8 room q (on_its_cut k lt (by_room w short)) = refl
+  from_never_8 room q (on_its_cut k lt (by_record w fits u)) = refl
 
 -- ── building ──
 

@@ -68,23 +68,23 @@ module _ (s : List ℕ) (cs : List Cut) (whole : verdict s ≡ accepted cs) (i :
   good : GoodCut s cut
   good = good_accepted s cs (exact.accepted_only s cs whole) i some
 
-  by_record_lem : (room : ℕ) → from_answer s i ray rec room ≡ from_on s ray rec room cut
+  by_record : (room : ℕ) → from_answer s i ray rec room ≡ from_on s ray rec room cut
   unfolding from_answer on_cut
-  by_record_lem room = ap (on_cut Refused (from_on s ray rec room) i) (any_same s cs whole) ∙ rw (lt-ltb i (length cs) some)
+  by_record room = ap (on_cut Refused (from_on s ray rec room) i) (any_same s cs whole) ∙ rw (lt-ltb i (length cs) some)
 
   plainly : (room : ℕ) → ray_answer s i ray room ≡ ray_on s ray room cut
   unfolding ray_answer on_cut
   plainly room = ap (on_cut Refused (ray_on s ray room) i) whole ∙ rw (lt-ltb i (length cs) some)
 
-  on_cut_lem : (room : ℕ) → from_on s ray rec room cut ≡ ray_on s ray room cut
+  on_its_cut : (room : ℕ) → from_on s ray rec room cut ≡ ray_on s ray room cut
   unfolding from_on ray_on
-  on_cut_lem room =
+  on_its_cut room =
       by_order (rays_in s cut) ray
       (λ out. rw (le-ltb ray (rays_in s cut) out))
       (λ inside. ap (λ (x : RayRecord). from_on s ray x room cut) (is inside) ∙ same_on s cut good ray inside e room)
 
   pub same_answer : (room : ℕ) → from_answer s i ray rec room ≡ ray_answer s i ray room
-  same_answer room = by_record_lem room ∙ on_cut_lem room ∙ sym (plainly room)
+  same_answer room = by_record room ∙ on_its_cut room ∙ sym (plainly room)
 
   -- the bins that a written answer is about
   bins_same : (room : ℕ) → ray_answer s i ray room ≡ Written → ray_from s cut rec ≡ ray_in s cut ray

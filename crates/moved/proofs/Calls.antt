@@ -98,8 +98,8 @@ module _ (s : List ℕ) (cs : List Cut) (a : Accepted s cs) (i : ℕ) (lt : i < 
   unfolding cut_at
   cut_is = ap (cut_at i) (exact.accepted_all s cs a)
 
-  on_cut_lem : {X : Type 0} (bad : Refusal → X) (some : Cut → X) → on_cut bad some i (verdict s) ≡ some (get_or cs i default_cut)
-  on_cut_lem bad some = cut_accepted base_checks base_format exact s bad some i cs a lt
+  on_its_cut : {X : Type 0} (bad : Refusal → X) (some : Cut → X) → on_cut bad some i (verdict s) ≡ some (get_or cs i default_cut)
+  on_its_cut bad some = cut_accepted base_checks base_format exact s bad some i cs a lt
 
 pub same_calls : (s t : List ℕ) (cs ds : List Cut) → Accepted s cs → Accepted t ds → (i j : ℕ) → i < length cs → j < length ds
     → parts_at s (get_or cs i default_cut) ≡ parts_at t (get_or ds j default_cut) → SameCalls s i t j
@@ -119,12 +119,12 @@ same_calls s t cs ds a b i j lt lu e =
     let list_of : (v : ℤ) (ray bin : ℕ) → stretches_in s (cut_in s i) v ray bin ≡ stretches_in t (cut_in t j) v ray bin =
     λ v ray bin. ap (λ (z : Cut). stretches_in s z v ray bin) x ∙ stretches s t c d p q m n e v ray bin ∙ sym (ap (λ (z : Cut). stretches_in t z v ray bin) y) in
     record {
-      cut = on_cut_lem s cs a i lt _ _ ∙ ap C.Cut (info s t c d p q m n e) ∙ sym (on_cut_lem t ds b j lu _ _);
-      rays = λ ray room. on_cut_lem s cs a i lt _ _ ∙ ray_on_lem s t c d p q m n e ray room ∙ sym (on_cut_lem t ds b j lu _ _);
+      cut = on_its_cut s cs a i lt _ _ ∙ ap C.Cut (info s t c d p q m n e) ∙ sym (on_its_cut t ds b j lu _ _);
+      rays = λ ray room. on_its_cut s cs a i lt _ _ ∙ ray_on_lem s t c d p q m n e ray room ∙ sym (on_its_cut t ds b j lu _ _);
       levels = λ r ray out. ap (λ (l : List ℕ). if_written r (front l out) out) (ray-of ray);
       marks = λ r ray out. (λ k. if_written r (marks_of (product-of k) (ray-of ray k) out) out);
       values = λ r ray out. (λ k. if_written r (values_of (product-of k) (ray-of ray k) out) out);
-      bin = λ ray bin. on_cut_lem s cs a i lt _ _ ∙ bin_on_lem s t c d p q m n e ray bin ∙ sym (on_cut_lem t ds b j lu _ _);
-      stretches = λ v ray bin room. on_cut_lem s cs a i lt _ _ ∙ stretches_on_lem s t c d p q m n e v ray bin room ∙ sym (on_cut_lem t ds b j lu _ _);
+      bin = λ ray bin. on_its_cut s cs a i lt _ _ ∙ bin_on_lem s t c d p q m n e ray bin ∙ sym (on_its_cut t ds b j lu _ _);
+      stretches = λ v ray bin room. on_its_cut s cs a i lt _ _ ∙ stretches_on_lem s t c d p q m n e v ray bin room ∙ sym (on_its_cut t ds b j lu _ _);
       words = λ r v ray bin out. ap (λ l. if_listed r (out_of out l) out) (list_of v ray bin);
     }

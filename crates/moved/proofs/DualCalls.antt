@@ -58,8 +58,8 @@ bin_by_lem s c p m ray bin =
     ∙ (λ i. cond (ltb ray (m.rays i) && ltb bin (m.bins i)) (bin_of (told_by p ray bin)) (B.Refused (refuse Argument 0)))
 
 module _ (s : List ℕ) (cs : List Cut) (a : Accepted s cs) where
-  on_cut_lem : (i : ℕ) → i < length cs → {X : Type 0} (bad : Refusal → X) (some : Cut → X) → on_cut bad some i (verdict s) ≡ some (get_or cs i default_cut)
-  on_cut_lem i lt bad some = cut_accepted dual_checks dual_format exact s bad some i cs a lt
+  on_its_cut : (i : ℕ) → i < length cs → {X : Type 0} (bad : Refusal → X) (some : Cut → X) → on_cut bad some i (verdict s) ≡ some (get_or cs i default_cut)
+  on_its_cut i lt bad some = cut_accepted dual_checks dual_format exact s bad some i cs a lt
 
 pub same_dual_calls : (s t : List ℕ) (cs ds : List Cut) → Accepted s cs → Accepted t ds → (i j : ℕ) → i < length cs → j < length ds
     → parts_at s (get_or cs i default_cut) ≡ parts_at t (get_or ds j default_cut) → SameDualCalls s i t j
@@ -69,12 +69,12 @@ same_dual_calls s t cs ds a b i j lt lu e =
     let n = dual_by_octets t ds b j lu in
     let grid = m.grid ∙ ap (λ (p : Parts). grid_at p.three 0) e ∙ sym n.grid in
     record {
-      cut = on_cut_lem s cs a i lt _ _ ∙ ap C.Cut grid ∙ sym (on_cut_lem t ds b j lu _ _);
+      cut = on_its_cut s cs a i lt _ _ ∙ ap C.Cut grid ∙ sym (on_its_cut t ds b j lu _ _);
       bin =
           λ ray bin.
-          on_cut_lem s cs a i lt _ _
+          on_its_cut s cs a i lt _ _
           ∙ bin_by_lem s _ _ m ray bin ∙ ap (λ (p : Parts). bin_by p ray bin) e ∙ sym (bin_by_lem t _ _ n ray bin)
-          ∙ sym (on_cut_lem t ds b j lu _ _);
+          ∙ sym (on_its_cut t ds b j lu _ _);
     }
 
 -- an accepted file with the section 1 of another, whose first cut stood in that other one, opens as that other one does, but for the number of cuts

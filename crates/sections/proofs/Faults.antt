@@ -32,9 +32,12 @@ wrong_first (check q false ∷ cs) r h =
     let e : q ≡ r = cc in
     subst (λ (x : Refusal). FirstFails x (check q false ∷ cs)) e (this refl)
 
+wrong_at : (r : Refusal) (cs : List Check) → FirstFails r cs → first_fault cs ≡ Refused r
+wrong_at r cs (this e) = rw e
+wrong_at r cs (later {cs = ds} e f) = rw e (wrong_at r ds f)
+
 pub first_wrong : (cs : List Check) (r : Refusal) → FirstFails r cs → first_fault cs ≡ Refused r
-first_wrong cs r (this e) = rw e
-first_wrong cs r (later {cs = ds} e f) = rw e (first_wrong ds r f)
+first_wrong cs r f = wrong_at r cs f
 
 -- what holds where the checks of a section hold
 pub record Clean (own : FormatChecks) (s : List ℕ) (end : ℕ) (x : Context) (at : ℕ) : Type 0 where

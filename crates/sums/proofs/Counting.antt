@@ -11,15 +11,15 @@ use Rattle.sums.proofs.Weighed.{held, weigh, weighed, opened, front_bins, laid_w
 
 pub record Counted (v : ℕ) (s : List ℕ) (e : ℕ) (row : List ℕ) (sum weight bins : ℕ) : Type 0 where
   -- the levels, which are in the first sum alone
-  levels_in_lem : ℕ
-  sums : sum ≡ levels_in_lem + total (held row) 256
-  gives : length (levels v (take e s)) ≡ bins + weight * (levels_in_lem + weighed v s (held row) 256)
+  levels_in : ℕ
+  sums : sum ≡ levels_in + total (held row) 256
+  gives : length (levels v (take e s)) ≡ bins + weight * (levels_in + weighed v s (held row) 256)
 
 module _ (v : ℕ) (s : List ℕ) (e : ℕ) where
   pub counted_first : (row : List ℕ) (sum : ℕ) → get_or s 0 0 ≤ v → 256 ≤ length s → e < 256 → get_or s e 0 ≤ v
       → Laid v s e row → sum ≡ total (λ j. alone v (get_or s j 0)) e → Counted v s e row sum 1 0
   counted_first row sum first long few level laid is = record {
-    levels_in_lem = opened v s e;
+    levels_in = opened v s e;
     sums = is ∙ laid_total v s e row few laid;
     gives = omega (arith, front_bins v s e first (omega arith) level, laid_weighed v s e row few laid);
   }
@@ -30,7 +30,7 @@ module _ (v : ℕ) (s : List ℕ) (e : ℕ) where
 
     pub counted_next : Counted v s e row next (weight * base v) (bins + (sum - next) * weight)
     counted_next = record {
-      levels_in_lem = 0;
+      levels_in = 0;
       sums = omega (arith, is);
       gives =
           let W : ℕ = weighed v s (held row) 256 in

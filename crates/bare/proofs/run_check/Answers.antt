@@ -36,4 +36,4 @@ pub returns-then-octets-lt-BLOCK : goal.returns-then-octets-lt-BLOCK
 returns-then-octets-lt-BLOCK c = either _ _ _ _ _ c.if-v-gt253.false c.if-n-gt2097152.false c.by_runs.ensures c.by_scan.ensures
 
 pub returns : goal.returns
-returns c = either _ _ _ _ _ c.if-v-gt253.false c.if-n-gt2097152.false c.Scan-runs.ensures c.by_scan-2.ensures
+returns c = either _ _ _ _ _ c.if-v-gt253.false c.if-n-gt2097152.false c.scan_runs.ensures c.by_scan-2.ensures

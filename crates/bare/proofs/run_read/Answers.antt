@@ -30,21 +30,21 @@ returns-then-out-n c = record { answered = simp (lt-ltb _ _ c.if-out-n.true, le-
 
 pub returns-in-Off : goal.returns-in-Off
 unfolding read_answer
-returns-in-Off c = let no = missed (gives c.args.v c.args.n c.args.octets.now) (fault_at c.args.v c.args.n c.args.octets.now) c.in-Off.at (sym c.in-Off.is ∙ c.Scan-runs.ensures) in
+returns-in-Off c = let no = missed (gives c.args.v c.args.n c.args.octets.now) (fault_at c.args.v c.args.n c.args.octets.now) c.in-Off.at (sym c.in-Off.is ∙ c.scan_runs-found.ensures) in
     record { answered = simp (le-ltb _ _ c.if-out-n.false, le-ltb _ _ c.if-n-gt2097152.false, le-ltb _ _ c.if-v-gt253.false, no.0) (ap (λ (i : ℕ). Refused (Data i)) no.1); held = refl }
 
 pub levels_upto-requires : goal.levels_upto-requires
 levels_upto-requires c = 
-    let exact : gives c.args.v c.args.n c.args.octets.now ≡ true = told _ _ (sym c.in_default.is ∙ c.Scan-runs.ensures) in
+    let exact : gives c.args.v c.args.n c.args.octets.now ≡ true = told _ _ (sym c.in_default.is ∙ c.scan_runs-found.ensures) in
     let g = gives_true c.args.v c.args.n c.args.octets.now exact in record { v_bound = (omega arith, omega arith, g.0); a_le_b = (omega arith, omega arith) }
 
 pub returns : goal.returns
 unfolding read_answer
 returns c = 
-    let exact : gives c.args.v c.args.n c.args.octets.now ≡ true = told _ _ (sym c.in_default.is ∙ c.Scan-runs.ensures) in
+    let exact : gives c.args.v c.args.n c.args.octets.now ≡ true = told _ _ (sym c.in_default.is ∙ c.scan_runs-found.ensures) in
     let yes = exact in
     let g = gives_true c.args.v c.args.n c.args.octets.now yes in
     record {
       answered = simp (le-ltb _ _ c.if-out-n.false, le-ltb _ _ c.if-n-gt2097152.false, le-ltb _ _ c.if-v-gt253.false, yes);
-      held = c.levels_upto.ensures.1 (c.levels_upto.ensures.0 ∙ le-leb c.args.n (length (levels c.args.v c.args.octets.now)) (omega (arith, g.1))) ∙ ap (λ (l : List ℕ). front l c.args.out.now) (take_all (c.args.n - 0) (levels c.args.v c.args.octets.now) (omega (arith, g.1)));
+      held = c.levels_upto.ensures.out_after (c.levels_upto.ensures.value ∙ le-leb c.args.n (length (levels c.args.v c.args.octets.now)) (omega (arith, g.1))) ∙ ap (λ (l : List ℕ). front l c.args.out.now) (take_all (c.args.n - 0) (levels c.args.v c.args.octets.now) (omega (arith, g.1)));
     }

@@ -25,21 +25,21 @@ pub returns-then-not-has_room : goal.returns-then-not-has_room
 unfolding write_answer
 returns-then-not-has_room c = let room = length c.args.out.now in
     let low : greatest c.args.levels.now ≤ 252 = omega (arith, c.greatest_of-v.ensures) in
-    let no : leb (length (written (greatest c.args.levels.now) c.args.levels.now)) room ≡ false = ap (λ (x : ℕ). leb (length (written x c.args.levels.now)) room) (sym c.greatest_of-v.ensures) ∙ sym c.has_room.ensures ∙ not-true _ c.if-not-has_room.true in
+    let no : leb (length (written (greatest c.args.levels.now) c.args.levels.now)) room ≡ false = ap (λ (x : ℕ). leb (length (written x c.args.levels.now)) room) (sym c.greatest_of-v.ensures) ∙ sym c.has_room.ensures ∙ c.if-not-has_room.true in
     let short : room < length (written (greatest c.args.levels.now) c.args.levels.now) = leb-false _ _ no in
     record { answered = simp (le-ltb _ _ c.if-levels-gt2097152.false, le-ltb _ _ low, lt-ltb _ _ short); held = refl }
 
 pub put_all-len-requires : goal.put_all-len-requires
-put_all-len-requires c = (omega arith, omega arith, leb-true _ _ (sym c.has_room.ensures ∙ not-false _ c.if-not-has_room.false))
+put_all-len-requires c = (omega arith, omega arith, leb-true _ _ (sym c.has_room.ensures ∙ c.if-not-has_room.false))
 
 pub returns : goal.returns
 unfolding write_answer
 returns c = let room = length c.args.out.now in
-    let n = c.put_all-len.ensures.0 ∙ ap (λ (x : ℕ). length (written x c.args.levels.now)) c.greatest_of-v.ensures in
+    let n = c.put_all-len.ensures.value ∙ ap (λ (x : ℕ). length (written x c.args.levels.now)) c.greatest_of-v.ensures in
     let low : greatest c.args.levels.now ≤ 252 = omega (arith, c.greatest_of-v.ensures) in
-    let yes : leb (length (written (greatest c.args.levels.now) c.args.levels.now)) room ≡ true = ap (λ (x : ℕ). leb (length (written x c.args.levels.now)) room) (sym c.greatest_of-v.ensures) ∙ sym c.has_room.ensures ∙ not-false _ c.if-not-has_room.false in
+    let yes : leb (length (written (greatest c.args.levels.now) c.args.levels.now)) room ≡ true = ap (λ (x : ℕ). leb (length (written x c.args.levels.now)) room) (sym c.greatest_of-v.ensures) ∙ sym c.has_room.ensures ∙ c.if-not-has_room.false in
     let enough : length (written (greatest c.args.levels.now) c.args.levels.now) ≤ room = leb-true _ _ yes in
     record {
       answered = simp (le-ltb _ _ c.if-levels-gt2097152.false, le-ltb _ _ low, le-ltb _ _ enough) (λ i. Wrote (c.greatest_of-v.ensures i) (n i));
-      held = c.put_all-len.ensures.1 ∙ ap (λ (x : ℕ). front (written x c.args.levels.now) c.args.out.now) c.greatest_of-v.ensures;
+      held = c.put_all-len.ensures.out_after ∙ ap (λ (x : ℕ). front (written x c.args.levels.now) c.args.out.now) c.greatest_of-v.ensures;
     }

@@ -52,8 +52,8 @@ pub overflow_add-from-in-Off : goal.overflow_add-from-in-Off
 unfolding length_at greatest_at data_at
 overflow_add-from-in-Off c = 
     let long : 6 ≤ length_at c.args.s.now c.args.at = omega (arith, c.length_at-len.ensures) in
-    let judged : c.Scan-runs.result ≡ scanned (greatest_at c.args.s.now c.args.x.section5) (points_at c.args.s.now c.args.x.section3) (data_at c.args.s.now c.args.at) = let span : c.args.at + c.length_at-len.result - (c.args.at + 5) ≡ length_at c.args.s.now c.args.at - 5 = omega (arith, c.length_at-len.ensures) in
-    c.Scan-runs.ensures ∙ (λ i. scanned (c.greatest_at-v.ensures i) (c.points_at-bins.ensures i) (take (span i) (drop (c.args.at + 5) c.args.s.now))) in
+    let judged : c.scan_runs.result ≡ scanned (greatest_at c.args.s.now c.args.x.section5) (points_at c.args.s.now c.args.x.section3) (data_at c.args.s.now c.args.at) = let span : c.args.at + c.length_at-len.result - (c.args.at + 5) ≡ length_at c.args.s.now c.args.at - 5 = omega (arith, c.length_at-len.ensures) in
+    c.scan_runs.ensures ∙ (λ i. scanned (c.greatest_at-v.ensures i) (c.points_at-bins.ensures i) (take (span i) (drop (c.args.at + 5) c.args.s.now))) in
     let off : let v = greatest_at c.args.s.now c.args.x.section5 in
     let bins = points_at c.args.s.now c.args.x.section3 in
     let octets = data_at c.args.s.now c.args.at in
@@ -66,8 +66,8 @@ pub returns-in-Exact : goal.returns-in-Exact
 unfolding length_at greatest_at data_at
 returns-in-Exact c = 
     let long : 6 ≤ length_at c.args.s.now c.args.at = omega (arith, c.length_at-len.ensures) in
-    let judged : c.Scan-runs.result ≡ scanned (greatest_at c.args.s.now c.args.x.section5) (points_at c.args.s.now c.args.x.section3) (data_at c.args.s.now c.args.at) = let span : c.args.at + c.length_at-len.result - (c.args.at + 5) ≡ length_at c.args.s.now c.args.at - 5 = omega (arith, c.length_at-len.ensures) in
-    c.Scan-runs.ensures ∙ (λ i. scanned (c.greatest_at-v.ensures i) (c.points_at-bins.ensures i) (take (span i) (drop (c.args.at + 5) c.args.s.now))) in
+    let judged : c.scan_runs.result ≡ scanned (greatest_at c.args.s.now c.args.x.section5) (points_at c.args.s.now c.args.x.section3) (data_at c.args.s.now c.args.at) = let span : c.args.at + c.length_at-len.result - (c.args.at + 5) ≡ length_at c.args.s.now c.args.at - 5 = omega (arith, c.length_at-len.ensures) in
+    c.scan_runs.ensures ∙ (λ i. scanned (c.greatest_at-v.ensures i) (c.points_at-bins.ensures i) (take (span i) (drop (c.args.at + 5) c.args.s.now))) in
     let v = greatest_at c.args.s.now c.args.x.section5 in
     let bins = points_at c.args.s.now c.args.x.section3 in
     let octets = data_at c.args.s.now c.args.at in
@@ -78,8 +78,8 @@ pub returns-in-Off : goal.returns-in-Off
 unfolding length_at greatest_at data_at
 returns-in-Off c = 
     let long : 6 ≤ length_at c.args.s.now c.args.at = omega (arith, c.length_at-len.ensures) in
-    let judged : c.Scan-runs.result ≡ scanned (greatest_at c.args.s.now c.args.x.section5) (points_at c.args.s.now c.args.x.section3) (data_at c.args.s.now c.args.at) = let span : c.args.at + c.length_at-len.result - (c.args.at + 5) ≡ length_at c.args.s.now c.args.at - 5 = omega (arith, c.length_at-len.ensures) in
-    c.Scan-runs.ensures ∙ (λ i. scanned (c.greatest_at-v.ensures i) (c.points_at-bins.ensures i) (take (span i) (drop (c.args.at + 5) c.args.s.now))) in
+    let judged : c.scan_runs.result ≡ scanned (greatest_at c.args.s.now c.args.x.section5) (points_at c.args.s.now c.args.x.section3) (data_at c.args.s.now c.args.at) = let span : c.args.at + c.length_at-len.result - (c.args.at + 5) ≡ length_at c.args.s.now c.args.at - 5 = omega (arith, c.length_at-len.ensures) in
+    c.scan_runs.ensures ∙ (λ i. scanned (c.greatest_at-v.ensures i) (c.points_at-bins.ensures i) (take (span i) (drop (c.args.at + 5) c.args.s.now))) in
     let off : let v = greatest_at c.args.s.now c.args.x.section5 in
     let bins = points_at c.args.s.now c.args.x.section3 in
     let octets = data_at c.args.s.now c.args.at in

@@ -20,7 +20,7 @@ module _ (c : tie.Else2) where
   low = rw (to_z-of_z w64 start.args.t start.fits.t) at c.before.if1.false
 
   high : lt_z (pos 32767) start.args.t ≡ false
-  high = rw (to_z-of_z w64 start.args.t start.fits.t) at c.if2.false
+  high = rw (to_z-of_z w64 start.args.t start.fits.t) at c.if2.left
 
   small : SFits w32 start.args.t
   small = let h = threshold_small start.args.t low high in record { sfits = omega arith }

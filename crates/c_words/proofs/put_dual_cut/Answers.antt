@@ -6,7 +6,7 @@ pub word_of-requires : goal.word_of-requires
 word_of-requires c = rw c.in-Refused.is at c.requires
 
 pub returns-in-Cut : goal.returns-in-Cut
-returns-in-Cut c = rw c.in-Cut.is (refl, c.put_grid.ensures)
+returns-in-Cut c = let whole = rw c.in-Cut.is (refl, c.put_grid.ensures) in record { value = whole.0; words_after = whole.1 }
 
 pub returns-in-Refused : goal.returns-in-Refused
-returns-in-Refused c = rw c.in-Refused.is (c.word_of.ensures, refl)
+returns-in-Refused c = let whole = rw c.in-Refused.is (c.word_of.ensures, refl) in record { value = whole.0; words_after = whole.1 }

@@ -13,4 +13,4 @@ pub levels_from-requires : goal.levels_from-requires
 levels_from-requires c = (omega (arith, c.greatest_in-v.ensures, greatest_small _ _ c.requires.any_data_cut), omega (arith, c.bins_in-nb.ensures, c.requires.any_data_cut.bins_few), omega (arith, c.bins_in-nb.ensures, c.requires.c_in_bounds))
 
 pub returns : goal.returns
-returns c = record { value = c.levels_from.ensures.0 ∙ same_usable c.args.file.now c.args.c _ _ _ c.greatest_in-v.ensures c.bins_in-nb.ensures c.data_in.ensures c.args.rec; out_after = c.levels_from.ensures.1 ∙ ap (λ (l : List ℕ). cond c.levels_from.result (front l c.args.out.now) c.args.out.now) (same_ray c.args.file.now c.args.c _ _ _ c.greatest_in-v.ensures c.bins_in-nb.ensures c.data_in.ensures c.args.rec) }
+returns c = record { value = c.levels_from.ensures.value ∙ same_usable c.args.file.now c.args.c _ _ _ c.greatest_in-v.ensures c.bins_in-nb.ensures c.data_in.ensures c.args.rec; out_after = c.levels_from.ensures.out_after ∙ ap (λ (l : List ℕ). cond c.levels_from.result (front l c.args.out.now) c.args.out.now) (same_ray c.args.file.now c.args.c _ _ _ c.greatest_in-v.ensures c.bins_in-nb.ensures c.data_in.ensures c.args.rec) }

@@ -12,4 +12,4 @@ list_from-requires c = let whole = list_asks _ _ c.requires.good_cut _ _ c.great
 
 pub returns : goal.returns
 returns c = let back = to_z-of_z w32 c.args.t c.ranges.t in
-    let l = list_gives _ _ c.requires.good_cut _ _ c.greatest_in-v.ensures c.data_in.ensures _ _ _ c.bins_in-nb.ensures c.rays_in-nr.ensures c.product_in-product.ensures c.args.t _ c.args.ray c.args.bin back in record { value = c.list_from.ensures.0 ∙ (λ i. answer_of (c.rays_in-nr.ensures i) (length c.args.words.now) (l i)); words_after = c.list_from.ensures.1 ∙ ap (out_of c.args.words.now) l }
+    let l = list_gives _ _ c.requires.good_cut _ _ c.greatest_in-v.ensures c.data_in.ensures _ _ _ c.bins_in-nb.ensures c.rays_in-nr.ensures c.product_in-product.ensures c.args.t _ c.args.ray c.args.bin back in record { value = c.list_from.ensures.value ∙ (λ i. answer_of (c.rays_in-nr.ensures i) (length c.args.words.now) (l i)); words_after = c.list_from.ensures.out_after ∙ ap (out_of c.args.words.now) l }

@@ -35,10 +35,7 @@ pub returns-then-fits : goal.returns-then-fits
 returns-then-fits c = 
     let yes : usable c.args.v c.args.nb c.args.octets.now c.args.rec ≡ true = sym c.fits2.ensures ∙ c.if-fits.true in
     let u = yes in
-    let row = from_gives c.args.product c.args.v c.args.nb c.args.octets.now c.args.rec c.requires.0 c.requires.1 (omega arith) u in (
-      sym u,
-      (c.readings_from.ensures.marks_after ∙ ap (λ (l : List ℕ). marks_of c.args.product l c.args.marks.now) row, c.readings_from.ensures.values_after ∙ ap (λ (l : List ℕ). values_of c.args.product l c.args.values.now) row),
-    )
+    let row = from_gives c.args.product c.args.v c.args.nb c.args.octets.now c.args.rec c.requires.0 c.requires.1 (omega arith) u in record { value = sym u; marks_after = c.readings_from.ensures.marks_after ∙ ap (λ (l : List ℕ). marks_of c.args.product l c.args.marks.now) row; values_after = c.readings_from.ensures.values_after ∙ ap (λ (l : List ℕ). values_of c.args.product l c.args.values.now) row }
 
 pub returns : goal.returns
 returns c = record { value = sym (sym c.fits2.ensures ∙ c.if-fits.false); marks_after = refl; values_after = refl }

@@ -16,8 +16,8 @@ returns-in-Cut c =
     let told = sym c.find_dual.ensures ∙ c.in-Cut.is in
     
     record {
-      answer = c.bin_value_on.ensures.0 ∙ sym (on_found _ _ _ _ _ told);
-      near = subst (λ (x : Cut). RightIn c.args.file.now c.args.ray c.args.bin x c.bin_value_on.result) (sym (cut_found _ _ _ told)) c.bin_value_on.ensures.1;
+      answer = c.bin_value_on.ensures.exact ∙ sym (on_found _ _ _ _ _ told);
+      near = subst (λ (x : Cut). RightIn c.args.file.now c.args.ray c.args.bin x c.bin_value_on.result) (sym (cut_found _ _ _ told)) c.bin_value_on.ensures.near;
     }
 
 pub returns-in-Refused : goal.returns-in-Refused

@@ -11,9 +11,7 @@ use Rattle.dualpol.proofs.bin_value_on.Goals as goal
 
 pub returns-in-Refused : goal.returns-in-Refused
 unfolding bin_on
-returns-in-Refused c = 
-    
-    (sym (judged_bad Refused c.args.c true _ _ _ _ (sym c.judge_bin-judged.ensures ∙ c.in-Refused.is)), tt)
+returns-in-Refused c = record { exact = sym (judged_bad Refused c.args.c true _ _ _ _ (sym c.judge_bin-judged.ensures ∙ c.in-Refused.is)); near = tt }
 
 pub told_in-requires : goal.told_in-requires
 told_in-requires c = 
@@ -26,4 +24,4 @@ unfolding bin_on
 returns c = 
     
     
-    let h = judged_fine _ _ (sym c.judge_bin-judged.ensures ∙ c.in_default.is) in record { exact = rw h.0 (c.bin_of.ensures ∙ ap bin_of c.told_in.ensures.0); near = rw c.bin_of.ensures (right_is c.args.file.now c.args.c c.args.ray c.args.bin c.told_in.result c.told_in.ensures.1) }
+    let h = judged_fine _ _ (sym c.judge_bin-judged.ensures ∙ c.in_default.is) in record { exact = rw h.0 (c.bin_of.ensures ∙ ap bin_of c.told_in.ensures.exact); near = rw c.bin_of.ensures (right_is c.args.file.now c.args.c c.args.ray c.args.bin c.told_in.result c.told_in.ensures.near) }

@@ -30,4 +30,4 @@ cell_of-requires c = rw (c.reference_at-r.ensures, c.binary_scale_at-e.ensures, 
 
 pub returns : goal.returns
 unfolding told_in cell_in reference_in reference_at binary_scale_in binary_scale_at decimal_scale_in decimal_scale_at width_in width_at
-returns c = let z : c.Cell-at.result ≡ cell_in c.args.file.now c.args.c c.args.ray c.args.bin = c.Cell-at.ensures ∙ (λ i. field c.args.file.now c.args.c.section7 (6 + (c.args.ray * c.bins_in.ensures i + c.args.bin) * (c.width_at-width.ensures i / 8)) (c.width_at-width.ensures i / 8)) in record { exact = c.cell_of.ensures.0 ∙ (λ i. cell_of (c.width_at-width.ensures i) (c.reference_at-r.ensures i) (c.binary_scale_at-e.ensures i) (c.decimal_scale_at-d.ensures i) (z i)); near = right_at c.cell_of.result c.reference_at-r.ensures z c.binary_scale_at-e.ensures c.decimal_scale_at-d.ensures c.cell_of.ensures.1 }
+returns c = let z : c.cell_at.result ≡ cell_in c.args.file.now c.args.c c.args.ray c.args.bin = c.cell_at.ensures ∙ (λ i. field c.args.file.now c.args.c.section7 (6 + (c.args.ray * c.bins_in.ensures i + c.args.bin) * (c.width_at-width.ensures i / 8)) (c.width_at-width.ensures i / 8)) in record { exact = c.cell_of.ensures.exact ∙ (λ i. cell_of (c.width_at-width.ensures i) (c.reference_at-r.ensures i) (c.binary_scale_at-e.ensures i) (c.decimal_scale_at-d.ensures i) (z i)); near = right_at c.cell_of.result c.reference_at-r.ensures z c.binary_scale_at-e.ensures c.decimal_scale_at-d.ensures c.cell_of.ensures.near }

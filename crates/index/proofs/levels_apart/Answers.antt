@@ -20,19 +20,16 @@ brought L row d a n far e =
     ap (take n) e ∙ take_at (between a (a + n) L) (drop (length (between a (a + n) L)) d) n size ∙ ap (λ (k : ℕ). take k (drop a L)) span
 
 pub returns-then-not-longer : goal.returns-then-not-longer
-returns-then-not-longer c = (sym (shorter_usable c.args.v c.args.nb c.args.octets.now c.args.before (sym c.longer.ensures ∙ not-true _ c.if-not-longer.true)), refl)
+returns-then-not-longer c = record { value = sym (shorter_usable c.args.v c.args.nb c.args.octets.now c.args.before (sym c.longer.ensures ∙ c.if-not-longer.true)); out_after = refl }
 
 pub levels_upto-requires : goal.levels_upto-requires
-levels_upto-requires c = record { v_bound = (omega arith, omega arith, longer_opens c.args.v c.args.nb c.args.octets.now c.args.before (sym c.longer.ensures ∙ not-false _ c.if-not-longer.false)); a_le_b = (omega arith, omega arith) }
+levels_upto-requires c = record { v_bound = (omega arith, omega arith, longer_opens c.args.v c.args.nb c.args.octets.now c.args.before (sym c.longer.ensures ∙ c.if-not-longer.false)); a_le_b = (omega arith, omega arith) }
 
 pub returns-then-levels_upto : goal.returns-then-levels_upto
 returns-then-levels_upto c = 
     
-    let first = sym c.longer.ensures ∙ not-false _ c.if-not-longer.false in
-    let far = leb-true (c.args.before + c.args.nb) (length (levels c.args.v c.args.octets.now)) (sym c.levels_upto.ensures.0 ∙ c.if-levels_upto.true) in (
-      sym (longer_usable c.args.v c.args.nb c.args.octets.now c.args.before first ∙ sym c.levels_upto.ensures.0 ∙ c.if-levels_upto.true),
-      c.carry.ensures ∙ ap (λ (l : List ℕ). front l c.args.out.now) (brought (levels c.args.v c.args.octets.now) _ _ c.args.before c.args.nb far (c.levels_upto.ensures.1 c.if-levels_upto.true)),
-    )
+    let first = sym c.longer.ensures ∙ c.if-not-longer.false in
+    let far = leb-true (c.args.before + c.args.nb) (length (levels c.args.v c.args.octets.now)) (sym c.levels_upto.ensures.value ∙ c.if-levels_upto.true) in record { value = sym (longer_usable c.args.v c.args.nb c.args.octets.now c.args.before first ∙ sym c.levels_upto.ensures.value ∙ c.if-levels_upto.true); out_after = c.carry.ensures ∙ ap (λ (l : List ℕ). front l c.args.out.now) (brought (levels c.args.v c.args.octets.now) _ _ c.args.before c.args.nb far (c.levels_upto.ensures.out_after c.if-levels_upto.true)) }
 
 pub returns : goal.returns
-returns c = record { value = sym (longer_usable c.args.v c.args.nb c.args.octets.now c.args.before (sym c.longer.ensures ∙ not-false _ c.if-not-longer.false) ∙ sym c.levels_upto.ensures.0 ∙ c.if-levels_upto.false); out_after = refl }
+returns c = record { value = sym (longer_usable c.args.v c.args.nb c.args.octets.now c.args.before (sym c.longer.ensures ∙ c.if-not-longer.false) ∙ sym c.levels_upto.ensures.value ∙ c.if-levels_upto.false); out_after = refl }

@@ -6,4 +6,4 @@ use Rattle.lines.proofs.Lines.{entry_put}
 use Rattle.lines.proofs.put_entry.Goals as goal
 
 pub returns : goal.returns
-returns c = record { put = entry_put (entry_in c.args.words.now c.args.i) c.put_word-a.ensures.0 c.put_word-b.ensures.0 c.put_word-c.ensures.0 c.put_kind.ensures.0 (refl, refl, refl, refl); upper_bound = omega (arith, c.put_word-a.ensures.1, c.put_word-b.ensures.1, c.put_word-c.ensures.1, c.put_kind.ensures.1) }
+returns c = record { put = entry_put (entry_in c.args.words.now c.args.i) c.put_word-a.ensures.put c.put_word-b.ensures.put c.put_word-c.ensures.put c.put_kind.ensures.put (refl, refl, refl, refl); upper_bound = omega (arith, c.put_word-a.ensures.upper_bound, c.put_word-b.ensures.upper_bound, c.put_word-c.ensures.upper_bound, c.put_kind.ensures.upper_bound) }

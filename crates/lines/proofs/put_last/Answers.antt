@@ -3,4 +3,4 @@ use Rattle.lent.proofs.Putting.{then}
 use Rattle.lines.proofs.put_last.Goals as goal
 
 pub returns : goal.returns
-returns c = then c.put_named-a.ensures.0 c.put_octets.ensures
+returns c = then c.put_named-a.ensures.put c.put_octets.ensures

@@ -5,4 +5,4 @@ use Rattle.lines.proofs.put_refused.Goals as goal
 
 pub returns : goal.returns
 unfolding refused_line
-returns c = then c.put_named-a.ensures.0 c.put_last.ensures
+returns c = then c.put_named-a.ensures.put c.put_last.ensures

@@ -7,4 +7,4 @@ use mathlib.Core.Path.{ap}
 use Rattle.lines.proofs.put_word.Goals as goal
 
 pub returns : goal.returns
-returns c = record { put = named (ap (λ (n : ℕ). c.args.name.now ++ decimal n) c.as_usize.ensures) c.put_named.ensures.0; upper_bound = c.put_named.ensures.1 }
+returns c = record { put = named (ap (λ (n : ℕ). c.args.name.now ++ decimal n) c.as_usize.ensures) c.put_named.ensures.put; upper_bound = c.put_named.ensures.upper_bound }

@@ -17,8 +17,8 @@ pub returns-in-Refused : goal.returns-in-Refused
 returns-in-Refused c = 
     
     
-    step_refused c.args.file.now c.args.words.now c.args.text.now c.Put-refused.new.0 c.args.p c.args.at c.Put-refused.result c.number_of.result
-    c.in-Refused.refusal.place c.in-Refused.refusal c.in-Refused.is c.number_of.ensures refl c.Put-refused.ensures
+    step_refused c.args.file.now c.args.words.now c.args.text.now c.put_refused-to.new.out c.args.p c.args.at c.put_refused-to.result c.number_of.result
+    c.in-Refused.refusal.place c.in-Refused.refusal c.in-Refused.is c.number_of.ensures refl c.put_refused-to.ensures
 
 pub returns-in-Head : goal.returns-in-Head
 returns-in-Head c = 
@@ -28,7 +28,7 @@ returns-in-Head c =
 pub returns-in-ToList : goal.returns-in-ToList
 returns-in-ToList c = 
     step_list c.args.file.now c.list_part-next.new.words c.args.text.now c.args.p c.args.at c.in-ToList.part c.list_part-next.result c.in-ToList.is
-    c.list_part-next.ensures.0 c.list_part-next.ensures.1 (omega (arith, c.requires.per_entry_in_bounds.1))
+    c.list_part-next.ensures.to_come c.list_part-next.ensures.result_value (omega (arith, c.requires.per_entry_in_bounds.1))
 
 pub returns-in-ToWrite : goal.returns-in-ToWrite
 returns-in-ToWrite c = rw c.p4.given.1 c.put_more_lines.ensures

@@ -12,8 +12,7 @@ use lib.Seq.{take_all}
 use Rattle.packing.proofs.put_all.Goals as goal
 
 pub returns-then-levels-eq0 : goal.returns-then-levels-eq0
-returns-then-levels-eq0 c = let none = sym (written_empty c.args.v c.args.levels.now c.if-levels-eq0.true) in
-    (ap length none, ap (λ (l : List ℕ). front l c.args.out.now) none)
+returns-then-levels-eq0 c = let none = sym (written_empty c.args.v c.args.levels.now c.if-levels-eq0.true) in record { value = ap length none; out_after = ap (λ (l : List ℕ). front l c.args.out.now) none }
 
 pub loop-i-init : goal.loop-i-init
 loop-i-init c = (omega arith, omega arith, omega arith, written_start c.args.v c.args.levels.now (omega arith), refl)
@@ -33,9 +32,9 @@ loop-i-preserved c = let W = written c.args.v c.args.levels.now in
     let next = c.loop-i.invariant.3 ∙ on_other c.args.v c.loop-i.x c.loop-i.k c.args.levels.now c.loop-i.i (omega arith) c.if-y-x.false in (
       omega arith,
       omega arith,
-      omega (arith, c.put_run-at.ensures.0, next_fits W c.loop-i.at p _ next c.loop-i.invariant.2),
-      ap (λ (n : ℕ). drop n W) c.put_run-at.ensures.0 ∙ next_drop W c.loop-i.at p _ next c.loop-i.invariant.2,
-      c.put_run-at.ensures.1 ∙ ap (λ (d : List ℕ). placed d c.loop-i.at p) c.loop-i.invariant.4 ∙ run_put W c.args.out.now c.loop-i.at p _ next c.loop-i.invariant.2 ∙ ap (λ (n : ℕ). front (take n W) c.args.out.now) (sym c.put_run-at.ensures.0),
+      omega (arith, c.put_run-at.ensures.value, next_fits W c.loop-i.at p _ next c.loop-i.invariant.2),
+      ap (λ (n : ℕ). drop n W) c.put_run-at.ensures.value ∙ next_drop W c.loop-i.at p _ next c.loop-i.invariant.2,
+      c.put_run-at.ensures.out_after ∙ ap (λ (d : List ℕ). placed d c.loop-i.at p) c.loop-i.invariant.4 ∙ run_put W c.args.out.now c.loop-i.at p _ next c.loop-i.invariant.2 ∙ ap (λ (n : ℕ). front (take n W) c.args.out.now) (sym c.put_run-at.ensures.value),
     )
 
 pub put_run-requires : goal.put_run-requires
@@ -47,7 +46,7 @@ put_run-requires c =
 pub shape_of-out : goal.shape_of-out
 shape_of-out c = 
     let size : length c.loop-i.out ≡ length c.args.out.now = ap length c.loop-i.invariant.4 ∙ length_fronted (written c.args.v c.args.levels.now) c.args.out.now c.loop-i.at c.loop-i.invariant.2 c.requires.2 in
-    c.put_run.auto.0 ∙ size
+    c.put_run.auto.out ∙ size
 
 pub returns : goal.returns
 returns c = 
@@ -56,4 +55,4 @@ returns c =
     let p = code c.args.v c.loop-i.x c.loop-i.k in
     let next = last in
     let none = simp length-drop at (ap length (next_drop W c.loop-i.at p [] next c.loop-i.invariant.2)) in
-    let size = next_fits W c.loop-i.at p [] next c.loop-i.invariant.2 in record { value = omega (arith, c.put_run.ensures.0); out_after = c.put_run.ensures.1 ∙ ap (λ (d : List ℕ). placed d c.loop-i.at p) c.loop-i.invariant.4 ∙ run_put W c.args.out.now c.loop-i.at p [] next c.loop-i.invariant.2 ∙ ap (λ (q : List ℕ). front q c.args.out.now) (take_all (c.loop-i.at + length p) W (omega arith)) }
+    let size = next_fits W c.loop-i.at p [] next c.loop-i.invariant.2 in record { value = omega (arith, c.put_run.ensures.value); out_after = c.put_run.ensures.out_after ∙ ap (λ (d : List ℕ). placed d c.loop-i.at p) c.loop-i.invariant.4 ∙ run_put W c.args.out.now c.loop-i.at p [] next c.loop-i.invariant.2 ∙ ap (λ (q : List ℕ). front q c.args.out.now) (take_all (c.loop-i.at + length p) W (omega arith)) }

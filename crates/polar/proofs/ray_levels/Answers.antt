@@ -20,9 +20,9 @@ returns-in-Cut c =
     
     
     record {
-      answer = c.ray_levels_on.ensures.0 ∙ sym (on_found _ _ _ _ _ told);
+      answer = c.ray_levels_on.ensures.value ∙ sym (on_found _ _ _ _ _ told);
       after =
-          c.ray_levels_on.ensures.1
+          c.ray_levels_on.ensures.out_after
           ∙ ap (λ (x : Cut). if_written c.ray_levels_on.result (front (ray_in c.args.file.now x c.args.ray) c.args.out.now) c.args.out.now) (sym (cut_found _ _ _ told));
     }
 

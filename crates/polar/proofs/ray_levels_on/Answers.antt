@@ -9,9 +9,7 @@ use Rattle.polar.proofs.ray_levels_on.Goals as goal
 
 pub returns-in-Refused : goal.returns-in-Refused
 unfolding ray_on
-returns-in-Refused c = 
-    
-    (sym (judged_bad Refused c.args.c true Written _ _ _ (sym c.judge_ray-judged.ensures ∙ c.in-Refused.is)), refl)
+returns-in-Refused c = record { value = sym (judged_bad Refused c.args.c true Written _ _ _ (sym c.judge_ray-judged.ensures ∙ c.in-Refused.is)); out_after = refl }
 
 pub ray_into-requires : goal.ray_into-requires
 ray_into-requires c = 

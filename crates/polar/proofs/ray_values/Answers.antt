@@ -22,12 +22,12 @@ returns-in-Cut c =
     
     let same = sym (cut_found _ _ _ told) in
     record {
-      answer = c.ray_values_on.ensures.0 ∙ sym (on_found _ _ _ _ _ told);
+      answer = c.ray_values_on.ensures.value ∙ sym (on_found _ _ _ _ _ told);
       marked =
-          c.ray_values_on.ensures.1.0
+          c.ray_values_on.ensures.marks_after
           ∙ ap (λ (x : Cut). if_written c.ray_values_on.result (marks_of (product_in c.args.file.now x) (ray_in c.args.file.now x c.args.ray) c.args.marks.now) c.args.marks.now) same;
       valued =
-          c.ray_values_on.ensures.1.1
+          c.ray_values_on.ensures.values_after
           ∙ ap (λ (x : Cut). if_written c.ray_values_on.result (values_of (product_in c.args.file.now x) (ray_in c.args.file.now x c.args.ray) c.args.values.now) c.args.values.now) same;
     }
 

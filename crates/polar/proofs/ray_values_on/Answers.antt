@@ -9,9 +9,7 @@ use Rattle.polar.proofs.ray_values_on.Goals as goal
 
 pub returns-in-Refused : goal.returns-in-Refused
 unfolding ray_on
-returns-in-Refused c = 
-    
-    (rw (← c.least-room.ensures) (sym (judged_bad Refused c.args.c true Written _ _ _ (sym c.judge_ray-judged.ensures ∙ c.in-Refused.is))), (refl, refl))
+returns-in-Refused c = record { value = rw (← c.least-room.ensures) (sym (judged_bad Refused c.args.c true Written _ _ _ (sym c.judge_ray-judged.ensures ∙ c.in-Refused.is))); marks_after = refl; values_after = refl }
 
 pub readings_into-requires : goal.readings_into-requires
 readings_into-requires c = 

@@ -25,10 +25,10 @@ returns-in-Cut c =
     let same = sym (cut_found _ _ _ told) in
     record {
       answer =
-          c.stretches_on.ensures.0
+          c.stretches_on.ensures.value
           ∙ ap (λ (t : ℤ). stretches_on c.args.file.now t c.args.ray c.args.bin (length c.args.words.now) c.in-Cut.c) back
           ∙ sym (on_found _ _ _ _ _ told);
-      after = c.stretches_on.ensures.1 ∙ (λ i. if_listed c.stretches_on.result (out_of c.args.words.now (stretches_in c.args.file.now (same i) (back i) c.args.ray c.args.bin)) c.args.words.now);
+      after = c.stretches_on.ensures.words_after ∙ (λ i. if_listed c.stretches_on.result (out_of c.args.words.now (stretches_in c.args.file.now (same i) (back i) c.args.ray c.args.bin)) c.args.words.now);
     }
 
 pub returns-in-Refused : goal.returns-in-Refused

@@ -23,8 +23,7 @@ pub returns-in-Refused : goal.returns-in-Refused
 unfolding stretches_on
 returns-in-Refused c = 
     
-    let right : c.right_list-right.result ≡ ((λ t. right_t t && right_point (bins_in c.args.file.now c.args.c) (rays_in c.args.file.now c.args.c) c.args.ray c.args.bin)) c.args.t = c.right_list-right.ensures ∙ ap (((λ t. right_t t && right_point (bins_in c.args.file.now c.args.c) (rays_in c.args.file.now c.args.c) c.args.ray c.args.bin))) (back (goal.at.returns-in-Refused c).Start) in
-    (rw (← right) (sym (judged_bad Refused c.args.c true _ _ _ _ (sym c.judge-judged.ensures ∙ c.in-Refused.is))), refl)
+    let right : c.right_list-right.result ≡ ((λ t. right_t t && right_point (bins_in c.args.file.now c.args.c) (rays_in c.args.file.now c.args.c) c.args.ray c.args.bin)) c.args.t = c.right_list-right.ensures ∙ ap (((λ t. right_t t && right_point (bins_in c.args.file.now c.args.c) (rays_in c.args.file.now c.args.c) c.args.ray c.args.bin))) (back (goal.at.returns-in-Refused c).Start) in record { value = rw (← right) (sym (judged_bad Refused c.args.c true _ _ _ _ (sym c.judge-judged.ensures ∙ c.in-Refused.is))); words_after = refl }
 
 pub list_into-requires : goal.list_into-requires
 list_into-requires c = 
@@ -37,4 +36,4 @@ returns c =
     
     
     let right : c.right_list-right.result ≡ ((λ t. right_t t && right_point (bins_in c.args.file.now c.args.c) (rays_in c.args.file.now c.args.c) c.args.ray c.args.bin)) c.args.t = c.right_list-right.ensures ∙ ap (((λ t. right_t t && right_point (bins_in c.args.file.now c.args.c) (rays_in c.args.file.now c.args.c) c.args.ray c.args.bin))) (back (goal.at.returns c).Start) in
-    let h = judged_fine _ _ (sym c.judge-judged.ensures ∙ c.in_default.is) in record { value = rw (← right, h.0, h.1) (ap Listed (c.list_into.ensures.0 ∙ ap (λ ((goal.at.returns c).In_default : ℤ). answer_of (rays_in c.args.file.now c.args.c) (length c.args.words.now) (stretches_in c.args.file.now c.args.c (goal.at.returns c).In_default c.args.ray c.args.bin)) (back (goal.at.returns c).Start))); words_after = c.list_into.ensures.1 ∙ ap (λ ((goal.at.returns c).In_default : ℤ). out_of c.args.words.now (stretches_in c.args.file.now c.args.c (goal.at.returns c).In_default c.args.ray c.args.bin)) (back (goal.at.returns c).Start) }
+    let h = judged_fine _ _ (sym c.judge-judged.ensures ∙ c.in_default.is) in record { value = rw (← right, h.0, h.1) (ap Listed (c.list_into.ensures.value ∙ ap (λ ((goal.at.returns c).In_default : ℤ). answer_of (rays_in c.args.file.now c.args.c) (length c.args.words.now) (stretches_in c.args.file.now c.args.c (goal.at.returns c).In_default c.args.ray c.args.bin)) (back (goal.at.returns c).Start))); words_after = c.list_into.ensures.words_after ∙ ap (λ ((goal.at.returns c).In_default : ℤ). out_of c.args.words.now (stretches_in c.args.file.now c.args.c (goal.at.returns c).In_default c.args.ray c.args.bin)) (back (goal.at.returns c).Start) }

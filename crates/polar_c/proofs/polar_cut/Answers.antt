@@ -10,4 +10,4 @@ put_cut-requires c =
 pub returns : goal.returns
 returns c = 
     let e = sym c.cut_info.ensures.answer in
-    record { returned = rw e c.put_cut.ensures.0; answered = rw e c.put_cut.ensures.1 }
+    record { returned = rw e c.put_cut.ensures.value; answered = rw e c.put_cut.ensures.words_after }

@@ -10,4 +10,4 @@ put_bin-requires c =
 pub returns : goal.returns
 returns c = 
     let e = sym c.bin_value.ensures.answer in
-    record { outcome = record { returned = rw e c.put_bin.ensures.0; held = rw e c.put_bin.ensures.1.0; answered = rw e c.put_bin.ensures.1.1 }; near = rw e c.bin_value.ensures.near }
+    record { outcome = record { returned = rw e c.put_bin.ensures.value; held = rw e c.put_bin.ensures.value_after; answered = rw e c.put_bin.ensures.words_after }; near = rw e c.bin_value.ensures.near }

@@ -10,4 +10,4 @@ put_dual_open-requires c =
 pub returns : goal.returns
 returns c = 
     let e = sym c.open.ensures in
-    record { returned = rw e c.put_dual_open.ensures.0; answered = rw e c.put_dual_open.ensures.1 }
+    record { returned = rw e c.put_dual_open.ensures.value; answered = rw e c.put_dual_open.ensures.words_after }

@@ -10,4 +10,4 @@ put_stretches-requires c =
 pub returns : goal.returns
 returns c = 
     let e = sym c.house_stretches.ensures.answer in
-    record { returned = rw e c.put_stretches.ensures.0; held = rw e c.house_stretches.ensures.after; answered = rw e c.put_stretches.ensures.1 }
+    record { returned = rw e c.put_stretches.ensures.value; held = rw e c.house_stretches.ensures.after; answered = rw e c.put_stretches.ensures.words_after }

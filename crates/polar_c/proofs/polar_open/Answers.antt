@@ -10,4 +10,4 @@ put_open-requires c =
 pub returns : goal.returns
 returns c = 
     let e = sym c.open.ensures.answer in
-    record { returned = rw e c.put_open.ensures.0; answered = rw e c.put_open.ensures.1 }
+    record { returned = rw e c.put_open.ensures.value; answered = rw e c.put_open.ensures.words_after }

@@ -5,4 +5,4 @@ use Rattle.polar_c.proofs.polar_run_write.Goals as goal
 pub returns : goal.returns
 returns c = 
     let e = sym c.run_write.ensures.answered in
-    record { returned = rw e c.put_write.ensures.0; held = rw e c.run_write.ensures.held; answered = rw e c.put_write.ensures.1 }
+    record { returned = rw e c.put_write.ensures.value; held = rw e c.run_write.ensures.held; answered = rw e c.put_write.ensures.words_after }

@@ -20,4 +20,4 @@ returns c =
     let back = to_z-of_z w32 (narrow_threshold c.args.t) (narrow_fits c.args.t) in
     let e = rw (narrow, back) at c.stretches.ensures.answer ∙ stretch_narrow c.args.file.now c.args.cut c.args.t c.args.ray c.args.bin (length c.args.words.now) in
     let h = rw (narrow, back, e) at c.stretches.ensures.after ∙ words_narrow c.args.file.now c.args.cut c.args.t c.args.ray c.args.bin c.args.words.now in
-    record { returned = rw (sym e) c.put_stretches.ensures.0; held = h; answered = rw (sym e) c.put_stretches.ensures.1 }
+    record { returned = rw (sym e) c.put_stretches.ensures.value; held = h; answered = rw (sym e) c.put_stretches.ensures.words_after }

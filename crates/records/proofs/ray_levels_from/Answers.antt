@@ -20,8 +20,8 @@ returns-in-Cut c =
     
     
     record {
-      answer = c.ray_levels_from_on.ensures.0 ∙ sym (on_found _ _ _ _ _ told);
-      after = c.ray_levels_from_on.ensures.1 ∙ ap (λ (x : Cut). if_written c.ray_levels_from_on.result (front (ray_from c.args.file.now x c.args.rec) c.args.out.now) c.args.out.now) (sym (cut_found _ _ _ told));
+      answer = c.ray_levels_from_on.ensures.value ∙ sym (on_found _ _ _ _ _ told);
+      after = c.ray_levels_from_on.ensures.out_after ∙ ap (λ (x : Cut). if_written c.ray_levels_from_on.result (front (ray_from c.args.file.now x c.args.rec) c.args.out.now) c.args.out.now) (sym (cut_found _ _ _ told));
     }
 
 pub returns-in-Refused : goal.returns-in-Refused

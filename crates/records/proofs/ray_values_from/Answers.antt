@@ -22,9 +22,9 @@ returns-in-Cut c =
     
     let same = sym (cut_found _ _ _ told) in
     record {
-      answer = c.ray_values_from_on.ensures.0 ∙ sym (on_found _ _ _ _ _ told);
-      marked = c.ray_values_from_on.ensures.1.0 ∙ ap (λ (x : Cut). if_written c.ray_values_from_on.result (marks_of (product_in c.args.file.now x) (ray_from c.args.file.now x c.args.rec) c.args.marks.now) c.args.marks.now) same;
-      valued = c.ray_values_from_on.ensures.1.1 ∙ ap (λ (x : Cut). if_written c.ray_values_from_on.result (values_of (product_in c.args.file.now x) (ray_from c.args.file.now x c.args.rec) c.args.values.now) c.args.values.now) same;
+      answer = c.ray_values_from_on.ensures.value ∙ sym (on_found _ _ _ _ _ told);
+      marked = c.ray_values_from_on.ensures.marks_after ∙ ap (λ (x : Cut). if_written c.ray_values_from_on.result (marks_of (product_in c.args.file.now x) (ray_from c.args.file.now x c.args.rec) c.args.marks.now) c.args.marks.now) same;
+      valued = c.ray_values_from_on.ensures.values_after ∙ ap (λ (x : Cut). if_written c.ray_values_from_on.result (values_of (product_in c.args.file.now x) (ray_from c.args.file.now x c.args.rec) c.args.values.now) c.args.values.now) same;
     }
 
 pub returns-in-Refused : goal.returns-in-Refused

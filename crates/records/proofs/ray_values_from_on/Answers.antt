@@ -14,8 +14,7 @@ pub returns-in-Refused : goal.returns-in-Refused
 unfolding from_on
 returns-in-Refused c = 
     
-    let fits = usable_in c.args.file.now c.args.c c.args.rec in
-    (rw (← c.least-room.ensures) (sym (judged_bad Refused c.args.c fits Written _ _ _ (sym c.judge_ray-judged.ensures ∙ c.in-Refused.is))), (refl, refl))
+    let fits = usable_in c.args.file.now c.args.c c.args.rec in record { value = rw (← c.least-room.ensures) (sym (judged_bad Refused c.args.c fits Written _ _ _ (sym c.judge_ray-judged.ensures ∙ c.in-Refused.is))); marks_after = refl; values_after = refl }
 
 pub readings_from-requires : goal.readings_from-requires
 readings_from-requires c = 
@@ -28,4 +27,4 @@ returns c =
     
     
     let h = judged_fine _ _ (sym c.judge_ray-judged.ensures ∙ c.in_default.is) in
-    let none = refuse Record c.args.c.section7 in record { value = rw (← c.least-room.ensures, h.0, h.1) (c.by_record.ensures ∙ ap (λ (x : Bool). cond x Written (Refused none)) c.readings_from.ensures.0); marks_after = written_if c.readings_from.result none _ _ _ _ c.by_record.ensures c.readings_from.ensures.1.0; values_after = written_if c.readings_from.result none _ _ _ _ c.by_record.ensures c.readings_from.ensures.1.1 }
+    let none = refuse Record c.args.c.section7 in record { value = rw (← c.least-room.ensures, h.0, h.1) (c.by_record.ensures ∙ ap (λ (x : Bool). cond x Written (Refused none)) c.readings_from.ensures.value); marks_after = written_if c.readings_from.result none _ _ _ _ c.by_record.ensures c.readings_from.ensures.marks_after; values_after = written_if c.readings_from.result none _ _ _ _ c.by_record.ensures c.readings_from.ensures.values_after }

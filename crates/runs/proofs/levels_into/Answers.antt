@@ -33,5 +33,5 @@ levels_upto-requires c =
 pub returns : goal.returns
 returns c = 
     let some : c.args.a < c.args.b = c.if-b-a.false in
-    c.levels_upto.ensures.1 (c.levels_upto.ensures.0 ∙ le-leb _ _ (passed_given c.args.v c.args.a c.args.b c.args.octets.now some c.requires.a_le_b.1 c.seek-hand.result c.seek-hand.ensures))
+    c.levels_upto.ensures.out_after (c.levels_upto.ensures.value ∙ le-leb _ _ (passed_given c.args.v c.args.a c.args.b c.args.octets.now some c.requires.a_le_b.1 c.seek-hand.result c.seek-hand.ensures))
     ∙ ap (λ (l : List ℕ). front l c.args.out.now) (passed_bins c.args.v c.args.a c.args.b c.args.octets.now some c.requires.a_le_b.1 c.seek-hand.result c.seek-hand.ensures)

@@ -59,7 +59,4 @@ shape_of-out-in-End c =
     size
 
 pub returns-in-End : goal.returns-in-End
-returns-in-End c = (
-  upto_ended c.args.v c.args.octets.now c.args.b c.loop-level.at c.loop-level.bins c.loop-level.invariant.0 (sym c.in-End.is ∙ c.run_upto.ensures),
-  λ all. c.loop-level.invariant.1 ∙ ap (λ (n : ℕ). front (between c.args.a n ((levels c.args.v c.args.octets.now))) c.args.out.now) (eqb-true c.loop-level.bins c.args.b all),
-)
+returns-in-End c = record { value = upto_ended c.args.v c.args.octets.now c.args.b c.loop-level.at c.loop-level.bins c.loop-level.invariant.0 (sym c.in-End.is ∙ c.run_upto.ensures); out_after = λ all. c.loop-level.invariant.1 ∙ ap (λ (n : ℕ). front (between c.args.a n ((levels c.args.v c.args.octets.now))) c.args.out.now) (eqb-true c.loop-level.bins c.args.b all) }

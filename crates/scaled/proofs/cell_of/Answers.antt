@@ -11,7 +11,7 @@ use Rattle.scaled.proofs.cell_of.Goals as goal
 
 pub returns-then-z-all_ones : goal.returns-then-z-all_ones
 unfolding cell_of
-returns-then-z-all_ones c = (simp (eq-eqb _ _ (c.if-z-all_ones.true ∙ c.all_ones.ensures)), tt)
+returns-then-z-all_ones c = record { exact = simp (eq-eqb _ _ (c.if-z-all_ones.true ∙ c.all_ones.ensures)); near = tt }
 
 pub returns : goal.returns
 unfolding cell_of

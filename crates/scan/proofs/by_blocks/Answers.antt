@@ -44,7 +44,7 @@ loop-at-preserved c =
       omega arith,
       omega (arith, f, length-drop c.loop-at.at c.args.octets.now),
       omega arith,
-      front_more c.args.v c.loop-at.false c.args.octets.now c.loop-at.at c.count_front-front.result.octets c.count_front-front.result.bins f (omega arith) ∙ c.loop-at.invariant.3,
+      front_more c.args.v c.loop-at.left c.args.octets.now c.loop-at.at c.count_front-front.result.octets c.count_front-front.result.bins f (omega arith) ∙ c.loop-at.invariant.3,
     )
 
 pub returns : goal.returns

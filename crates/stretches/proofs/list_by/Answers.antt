@@ -36,8 +36,7 @@ shape_of-out-in_default c = same_size _ _ _ _ _ _ _ c.loop-level.invariant.2
 
 pub returns-in_default : goal.returns-in_default
 returns-in_default c = let s = (((goal.at.returns-in_default c).Start)).args in
-    let none = known_ended s.v (s.nr - c.loop-level.ray) s.octets.now c.loop-level.at (sym c.in_default.is ∙ c.known_run-step.ensures) in
-    told _ (c.loop-level.invariant.2 ∙ ended _ _ _ _ _ _ _ c.loop-level.invariant.0 (omega (arith, none)) _ _)
+    let none = known_ended s.v (s.nr - c.loop-level.ray) s.octets.now c.loop-level.at (sym c.in_default.is ∙ c.known_run-step.ensures) in let whole = told _ (c.loop-level.invariant.2 ∙ ended _ _ _ _ _ _ _ c.loop-level.invariant.0 (omega (arith, none)) _ _) in record { value = whole.0; out_after = whole.1 }
 
 pub must_list-requires : goal.must_list-requires
 must_list-requires c = small ((at-start ((at_head (((goal.at.must_list-requires c).In-Run)))))) ((at_head (((goal.at.must_list-requires c).In-Run)))).loop.inv.0
@@ -49,8 +48,7 @@ pub returns-then-cap-count : goal.returns-then-cap-count
 returns-then-cap-count c = 
     let kind-is : let s = ((at-start ((at_head (((goal.at.returns-then-cap-count c).In-Run)))))).args in
     get_or s.kinds.now (((goal.at.returns-then-cap-count c).In-Run)).step.given.0.0 0 ≡ get_or s.kinds.now (get_or s.octets.now ((at_head (((goal.at.returns-then-cap-count c).In-Run)))).loop.at 0) 0 = ap (λ (l : ℕ). get_or ((at-start ((at_head (((goal.at.returns-then-cap-count c).In-Run)))))).args.kinds.now l 0) (run (((goal.at.returns-then-cap-count c).In-Run))).1 in
-    let i = ((at_head (((goal.at.returns-then-cap-count c).In-Run)))).loop.invariant in
-    told _ (i.2 ∙ stuck _ _ _ _ _ _ _ (changing _ _ _ _ _ (whole ((at-start ((at_head (((goal.at.returns-then-cap-count c).In-Run))))))) i.0 i.1 (run (((goal.at.returns-then-cap-count c).In-Run))).0 (λ e. c.if-kind-held.true (kind-is ∙ e))) c.must_list.ensures c.if-must_list.true _ _ c.if-cap-count.true)
+    let i = ((at_head (((goal.at.returns-then-cap-count c).In-Run)))).loop.invariant in let whole = told _ (i.2 ∙ stuck _ _ _ _ _ _ _ (changing _ _ _ _ _ (whole ((at-start ((at_head (((goal.at.returns-then-cap-count c).In-Run))))))) i.0 i.1 (run (((goal.at.returns-then-cap-count c).In-Run))).0 (λ e. c.if-kind-held.true (kind-is ∙ e))) c.must_list.ensures c.if-must_list.true _ _ c.if-cap-count.true) in record { value = whole.0; out_after = whole.1 }
 
 pub overflow_sub-bin : goal.overflow_sub-bin
 overflow_sub-bin c = ((at_head (((goal.at.overflow_sub-bin c).In-Run)))).loop.inv.0.first_le
@@ -140,8 +138,7 @@ returns-then-cap-count-2 c =
     (λ w. rw (w.3, w.4, w.5, w.6, kind-is) (going_changed _ _ _ _ _ (whole ((at-start ((at_head (((goal.at.returns-then-cap-count-2 c).In-Run))))))) i.0 i.1 r (other w.0.taken), refl, i.2 ∙ passed _ _ _ _ _ _ _ (changing _ _ _ _ _ (whole ((at-start ((at_head (((goal.at.returns-then-cap-count-2 c).In-Run))))))) i.0 i.1 r (other w.0.taken)) w.1.ensures w.2.left _ _))
     (λ w. rw (w.1, w.2, w.3, w.4) (i.0, sym kind-is ∙ w.0.left, i.2)))
     c.if-kind-held.branch in
-    let inner : Due ((at-start ((at_head (((goal.at.returns-then-cap-count-2 c).In-Run)))))) c.loop-bin.out c.loop-bin.count c.loop-bin.ray c.loop-bin.first = (turned).2 ∙ c.loop-bin.invariant.1 in
-    told _ (inner ∙ stuck _ _ _ _ _ _ _ (ending _ _ _ _ _ c.loop-bin.invariant.0 c.loop-bin-test.true) c.must_list-in-loop-bin.ensures c.if-must_list-2.true _ _ c.if-cap-count-2.true)
+    let inner : Due ((at-start ((at_head (((goal.at.returns-then-cap-count-2 c).In-Run)))))) c.loop-bin.out c.loop-bin.count c.loop-bin.ray c.loop-bin.first = (turned).2 ∙ c.loop-bin.invariant.1 in let whole = told _ (inner ∙ stuck _ _ _ _ _ _ _ (ending _ _ _ _ _ c.loop-bin.invariant.0 c.loop-bin-test.true) c.must_list-in-loop-bin.ensures c.if-must_list-2.true _ _ c.if-cap-count-2.true) in record { value = whole.0; out_after = whole.1 }
 
 pub overflow_sub-nb : goal.overflow_sub-nb
 overflow_sub-nb c = omega (arith, c.loop-bin.invariant.0.first_lt)

@@ -22,7 +22,7 @@ pub overflow_cast-level : goal.overflow_cast-level
 overflow_cast-level c = let e = ap length c.requires ∙ table_length c.args.product in omega (arith, count_le c.args.product)
 
 pub reading_in-reading-requires : goal.reading_in-reading-requires
-reading_in-reading-requires c = let e = ap length c.requires ∙ table_length c.args.product in (c.requires, omega arith)
+reading_in-reading-requires c = let e = ap length c.requires ∙ table_length c.args.product in record { table_value = c.requires; level_bound = omega arith }
 
 pub offset_bounds-numbers-level : goal.offset_bounds-numbers-level
 offset_bounds-numbers-level c = let e = ap length c.requires ∙ table_length c.args.product in omega (arith, count_le c.args.product)

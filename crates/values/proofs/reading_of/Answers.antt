@@ -7,4 +7,4 @@ pub reading_in-requires : goal.reading_in-requires
 reading_in-requires c = record { table_value = c.reflectivity_table-table.ensures ∙ sym (ap table_of c.in-Reflectivity.is); level_bound = c.requires }
 
 pub reading_in-requires-in-Velocity : goal.reading_in-requires-in-Velocity
-reading_in-requires-in-Velocity c = (c.velocity_table-table.ensures ∙ sym (ap table_of c.in-Velocity.is), c.requires)
+reading_in-requires-in-Velocity c = record { table_value = c.velocity_table-table.ensures ∙ sym (ap table_of c.in-Velocity.is); level_bound = c.requires }

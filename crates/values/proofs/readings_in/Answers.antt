@@ -43,8 +43,7 @@ run_upto-requires c = (base_low c.args.product c.args.v c.requires.bins.low, ome
 pub reading_in-reading-requires : goal.reading_in-reading-requires
 reading_in-reading-requires c = 
     let run : CutOff c.args.v c.args.octets.now c.loop-level.at (c.args.b - c.loop-level.bins) c.in-Run.level c.in-Run.len c.in-Run.next = cut_told c.args.v _ c.args.octets.now c.loop-level.at _ _ _ (sym c.in-Run.is ∙ c.run_upto.ensures) in
-    let r = run in
-    (c.requires.table_value, omega (arith, c.requires.bins.low, r.is, here_low c.args.v c.args.octets.now c.loop-level.at c.loop-level.bins (upto_stands _ _ _ _ _ c.loop-level.invariant.0 _ _ _ r) (upto_more _ _ _ _ _ c.loop-level.invariant.0 _ _ _ r)))
+    let r = run in record { table_value = c.requires.table_value; level_bound = omega (arith, c.requires.bins.low, r.is, here_low c.args.v c.args.octets.now c.loop-level.at c.loop-level.bins (upto_stands _ _ _ _ _ c.loop-level.invariant.0 _ _ _ r) (upto_more _ _ _ _ _ c.loop-level.invariant.0 _ _ _ r)) }
 
 pub overflow_add-to : goal.overflow_add-to
 overflow_add-to c = 

@@ -10,7 +10,7 @@ use Rattle.values.proofs.Passed.{base_low, passed_asks}
 use Rattle.values.proofs.readings_into.Goals as goal
 
 pub seek-hand-requires : goal.seek-hand-requires
-seek-hand-requires c = ((base_low c.args.product c.args.v c.requires.bins.low, c.requires.bins.opened, c.requires.a_lt_b.1), omega (arith, c.requires.a_lt_b.0, c.requires.bins.given))
+seek-hand-requires c = record { v_bound = (base_low c.args.product c.args.v c.requires.bins.low, c.requires.bins.opened, c.requires.a_lt_b.1); a_in_bounds = omega (arith, c.requires.a_lt_b.0, c.requires.bins.given) }
 
 pub slice_bounds-readings_from-count : goal.slice_bounds-readings_from-count
 slice_bounds-readings_from-count c = 
