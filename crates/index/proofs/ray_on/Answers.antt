@@ -6,7 +6,10 @@ use Rattle.index.proofs.Records.{record_held}
 use Rattle.index.proofs.ray_on.Goals as goal
 
 pub seek_from-hand-requires : goal.seek_from-hand-requires
-seek_from-hand-requires c = record { v_bound = (c.requires.0.low, c.requires.0.few, c.requires.1); in_hand = (c.requires.0.run, c.requires.0.before) }
+seek_from-hand-requires c = record {
+  v_bound = (c.requires.0.low, c.requires.0.few, c.requires.1);
+  in_hand = (c.requires.0.run, c.requires.0.before);
+}
 
 pub overflow_cast-result : goal.overflow_cast-result
 overflow_cast-result c = 
