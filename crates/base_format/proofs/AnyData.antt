@@ -143,6 +143,7 @@ two_fail r c d O O' f (later p (later q h)) = later p (later q (f h))
 
 alone : (r q : Refusal) (b : Bool) → FirstFails r (check q b ∷ []) → q ≡ r
 alone r q b (this e) = refl
+alone r q b (later p h) = elim h [ ]
 
 but_second : (r : Refusal) (c : Check) (q : Refusal) (b : Bool) → (q ≡ r → ⊥) → FirstFails r (c ∷ check q b ∷ []) → FirstFails r (c ∷ [])
 but_second r c q b n (this e) = this e
@@ -215,6 +216,7 @@ of_both true X O h k = h
 of_both false X O h k = k
 
 pub not_eight : (r : Refusal) (cs : List Check) → NoEight cs → FirstFails r cs → eqb (number_of r.why) 8 ≡ false
+not_eight r [] n h = elim h [ ]
 not_eight r (check q ok ∷ cs) n (this e) = n.0
 not_eight r (check q ok ∷ cs) n (later p f) = not_eight r cs n.1 f
 

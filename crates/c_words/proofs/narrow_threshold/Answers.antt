@@ -32,14 +32,14 @@ returns-then-t-ltminus32767 c = let e = rw (to_z-of_z w64 c.args.t c.ranges.t) a
 pub returns-then-t-gt32767 : goal.returns-then-t-gt32767
 unfolding right_t
 returns-then-t-gt32767 c = 
-    let e = rw (to_z-of_z w64 c.args.t c.fits.t) at c.if-t-ltminus32767.false in
-    let f = rw (to_z-of_z w64 c.args.t c.fits.t) at c.if-t-gt32767.true in
+    let e = rw (to_z-of_z w64 c.args.t c.ranges.t) at c.if-t-ltminus32767.false in
+    let f = rw (to_z-of_z w64 c.args.t c.ranges.t) at c.if-t-gt32767.true in
     rw (e, f)
 
 pub overflow_cast-result : goal.overflow_cast-result
-overflow_cast-result c = rw (to_z-of_z w64 c.args.t c.fits.t) (small c)
+overflow_cast-result c = rw (to_z-of_z w64 c.args.t c.ranges.t) (small c)
 
 pub returns : goal.returns
 unfolding right_t
 returns c = 
-    rw (to_z-of_z w64 c.args.t c.fits.t, to_z-of_z w32 c.args.t (small c), low c, high c)
+    rw (to_z-of_z w64 c.args.t c.ranges.t, to_z-of_z w32 c.args.t (small c), low c, high c)

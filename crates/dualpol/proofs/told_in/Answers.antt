@@ -11,18 +11,21 @@ use native.Mathlib.Omega.{arith}
 use mathlib.Core.Path.{◌≡◌, ◌∙◌}
 use Rattle.dualpol.proofs.told_in.Goals as goal
 
-cells-few : (s : tie.Start) (nb : ℕ) → nb ≡ bins_in s.args.file.now s.args.c → s.args.ray * nb + s.args.bin ≤ 2097152
-cells-few s nb e = few_cells s.args.ray s.args.bin (rays_in s.args.file.now s.args.c) nb s.requires.1 (omega (arith, s.requires.2)) s.requires.0.rays_few (omega (arith, s.requires.0.bins_few))
-
 pub overflow_mul-n : goal.overflow_mul-n
-overflow_mul-n c = record { fits = omega (arith, cells-few (goal.at.overflow_mul-n c).Start c.bins_in.result c.bins_in.ensures) }
+overflow_mul-n c = 
+    let cells-few : (nb : ℕ) → nb ≡ bins_in c.args.file.now c.args.c → c.args.ray * nb + c.args.bin ≤ 2097152 = λ nb e. few_cells c.args.ray c.args.bin (rays_in c.args.file.now c.args.c) nb c.requires.1 (omega (arith, c.requires.2)) c.requires.0.rays_few (omega (arith, c.requires.0.bins_few)) in
+    record { fits = omega (arith, cells-few c.bins_in.result c.bins_in.ensures) }
 
 pub overflow_add-n : goal.overflow_add-n
-overflow_add-n c = record { fits = omega (arith, cells-few (goal.at.overflow_add-n c).Start c.bins_in.result c.bins_in.ensures) }
+overflow_add-n c = 
+    let cells-few : (nb : ℕ) → nb ≡ bins_in c.args.file.now c.args.c → c.args.ray * nb + c.args.bin ≤ 2097152 = λ nb e. few_cells c.args.ray c.args.bin (rays_in c.args.file.now c.args.c) nb c.requires.1 (omega (arith, c.requires.2)) c.requires.0.rays_few (omega (arith, c.requires.0.bins_few)) in
+    record { fits = omega (arith, cells-few c.bins_in.result c.bins_in.ensures) }
 
 pub cell_at-requires : goal.cell_at-requires
 unfolding width_in width_at
-cell_at-requires c = (omega (arith, c.requires.0.inside), cells-few (goal.at.cell_at-requires c).Start c.bins_in.result c.bins_in.ensures, rw c.width_at-width.ensures c.requires.0.packing.cells)
+cell_at-requires c = 
+    let cells-few : (nb : ℕ) → nb ≡ bins_in c.args.file.now c.args.c → c.args.ray * nb + c.args.bin ≤ 2097152 = λ nb e. few_cells c.args.ray c.args.bin (rays_in c.args.file.now c.args.c) nb c.requires.1 (omega (arith, c.requires.2)) c.requires.0.rays_few (omega (arith, c.requires.0.bins_few)) in
+    (omega (arith, c.requires.0.inside), cells-few c.bins_in.result c.bins_in.ensures, rw c.width_at-width.ensures c.requires.0.packing.cells)
 
 pub cell_of-requires : goal.cell_of-requires
 unfolding reference_in reference_at binary_scale_in binary_scale_at decimal_scale_in decimal_scale_at width_in width_at

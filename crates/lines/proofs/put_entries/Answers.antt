@@ -22,9 +22,6 @@ pub loop-left-preserved : goal.loop-left-preserved
 loop-left-preserved c = let next = more_put c.args.words.now c.loop-left.out c.put_entry-to.new.out c.loop-left.to c.put_entry-to.result c.loop-left.i c.loop-left.left (omega arith) c.put_entry-to.ensures.put in
     (omega arith, omega arith, c.put_entry-to.auto.out ∙ c.loop-left.invariant.2, next.0 ∙ c.loop-left.invariant.3, next.1 ∙ c.loop-left.invariant.4)
 
-pub shape_of-out : goal.shape_of-out
-shape_of-out c = c.loop-left.invariant.2
-
 pub returns : goal.returns
 returns c = let none = entries_none c.args.words.now c.loop-left.i c.loop-left.left c.loop-left-test.false in
     record { there = placed_none c.loop-left.out c.loop-left.to ∙ ap (λ (t : List ℕ). placed c.loop-left.out c.loop-left.to t) (sym none) ∙ c.loop-left.invariant.3; past = omega (arith, ap length none, c.loop-left.invariant.4); inside = omega (arith, c.requires.1) }

@@ -1,3 +1,4 @@
+-- What is still to be put, and what the lines still to be put would make of the octets, against the whole.
 use Prim.Native.Nat.{◌+◌, ◌*◌, ◌≤◌}
 use mathlib.Core.Path.{◌≡◌}
 use lib.ListN.{length}

@@ -5,6 +5,6 @@ use Rattle.lines.proofs.put_head.Goals as goal
 
 pub returns : goal.returns
 unfolding head_line
-returns c = 
+returns c =
     then c.put_named-a.ensures.put
     (then c.put_named-b.ensures.put (then c.put_named-c.ensures.put (then c.put_named-d.ensures.put c.put_last.ensures)))

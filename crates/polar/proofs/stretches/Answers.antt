@@ -21,7 +21,7 @@ returns-in-Cut c =
     let told = sym c.find.ensures ∙ c.in-Cut.is in
     
     
-    let back = to_z-of_z w32 c.args.t c.fits.t in
+    let back = to_z-of_z w32 c.args.t c.ranges.t in
     let same = sym (cut_found _ _ _ told) in
     record {
       answer =

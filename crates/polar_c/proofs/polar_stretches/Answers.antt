@@ -16,7 +16,7 @@ pub returns : goal.returns
 returns c = 
     
     
-    let narrow = rw (to_z-of_z w64 c.args.t c.fits.t) at c.narrow_threshold-threshold.ensures in
+    let narrow = rw (to_z-of_z w64 c.args.t c.ranges.t) at c.narrow_threshold-threshold.ensures in
     let back = to_z-of_z w32 (narrow_threshold c.args.t) (narrow_fits c.args.t) in
     let e = rw (narrow, back) at c.stretches.ensures.answer ∙ stretch_narrow c.args.file.now c.args.cut c.args.t c.args.ray c.args.bin (length c.args.words.now) in
     let h = rw (narrow, back, e) at c.stretches.ensures.after ∙ words_narrow c.args.file.now c.args.cut c.args.t c.args.ray c.args.bin c.args.words.now in

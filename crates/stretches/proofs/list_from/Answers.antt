@@ -19,4 +19,4 @@ pub overflow_add-ray : goal.overflow_add-ray
 overflow_add-ray c = omega (arith, point_small c.args.nb c.args.nr c.args.ray c.args.bin c.requires.v_bound.1 c.requires.cut_data.nb_pos c.requires.cut_data.nb_le c.requires.cut_data.nr_le)
 
 pub returns : goal.returns
-returns c = let k : KindsBy c.args.product c.args.t c.kinds_by-kinds.result = λ l h. c.kinds_by-kinds.ensures l h ∙ ap (λ (z : ℤ). kind_number (kind_of (reading_of c.args.product l) z)) (to_z-of_z w32 c.args.t c.ranges.t) in let whole = rw (← table_listed c.args.product c.args.t c.kinds_by-kinds.result c.args.v c.args.octets.now c.args.nb c.args.nr (c.args.ray * c.args.nb + c.args.bin) k c.requires.v_bound.0) c.list_by.ensures in record { value = whole.0; out_after = whole.1 }
+returns c = let k : KindsBy c.args.product c.args.t c.kinds_by-kinds.result = λ l h. c.kinds_by-kinds.ensures l h ∙ ap (λ (z : ℤ). kind_number (kind_of (reading_of c.args.product l) z)) (to_z-of_z w32 c.args.t c.ranges.t) in record { value = rw (← table_listed c.args.product c.args.t c.kinds_by-kinds.result c.args.v c.args.octets.now c.args.nb c.args.nr (c.args.ray * c.args.nb + c.args.bin) k c.requires.v_bound.0) c.list_by.ensures.value; out_after = rw (← table_listed c.args.product c.args.t c.kinds_by-kinds.result c.args.v c.args.octets.now c.args.nb c.args.nr (c.args.ray * c.args.nb + c.args.bin) k c.requires.v_bound.0) c.list_by.ensures.out_after }

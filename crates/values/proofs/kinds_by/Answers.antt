@@ -14,7 +14,7 @@ pub kinds_in-requires-in-Velocity : goal.kinds_in-requires-in-Velocity
 kinds_in-requires-in-Velocity c = c.velocity_table-table.ensures ∙ sym (ap table_of c.in-Velocity.is)
 
 pub returns-in-Reflectivity : goal.returns-in-Reflectivity
-returns-in-Reflectivity c = λ l h. c.kinds_in.ensures l h ∙ ap (λ (z : ℤ). kind_number (kind_of (reading_of c.args.product l) z)) (to_z-of_z c.fits.t)
+returns-in-Reflectivity c = λ l h. c.kinds_in.ensures l h ∙ ap (λ (z : ℤ). kind_number (kind_of (reading_of c.args.product l) z)) (to_z-of_z c.ranges.t)
 
 pub returns-in-Velocity : goal.returns-in-Velocity
-returns-in-Velocity c = λ l h. c.kinds_in-in-Velocity.ensures l h ∙ ap (λ (z : ℤ). kind_number (kind_of (reading_of c.args.product l) z)) (to_z-of_z c.fits.t)
+returns-in-Velocity c = λ l h. c.kinds_in-in-Velocity.ensures l h ∙ ap (λ (z : ℤ). kind_number (kind_of (reading_of c.args.product l) z)) (to_z-of_z c.ranges.t)

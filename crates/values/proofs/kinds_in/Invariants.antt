@@ -2,13 +2,11 @@ use mathlib.Core.Path.{◌≡◌}
 use Prim.Native.Nat.{ℕ, ◌+◌, ◌-◌, ◌≤◌, ◌<◌}
 use Rattle.kinds.specs.KindTable.{kind_number}
 use lib.ListN.{length, get_or}
-use mir.Syntax.{w32}
-use mir.Val.{to_z}
 use Rattle.values.specs.Reading.{reading_of, kind_of}
 use Rattle.values.proofs.kinds_in.Given as goal
 
 abbrev pub invariant-loop-level : goal.invariant-loop-level
-invariant-loop-level l = (l.level ≤ l.m + 1) × (length l.numbers ≡ 256) × ((k : ℕ) → k < l.level → get_or l.numbers k 0 ≡ kind_number (kind_of (reading_of l.product k) (to_z w32 l.t)))
+invariant-loop-level l = (l.level ≤ l.m + 1) × (length l.numbers ≡ 256) × ((k : ℕ) → k < l.level → get_or l.numbers k 0 ≡ kind_number (kind_of (reading_of l.product k) l.t))
 
 abbrev pub decreases-loop-level : goal.decreases-loop-level
 decreases-loop-level l = l.m + 1 - l.level

@@ -25,7 +25,7 @@ pub pair_right-right-requires : goal.pair_right-right-requires
 pair_right-right-requires c = subst (λ (z : ℤ). sign_magnitude z < 65536) (sym (to_z-of_z {w = w16} {z = get_or c.args.table.now c.loop-i.i (pos 0)} (record { sfits = c.pair_right-arg-1.given }))) (c.requires c.loop-i.i)
 
 pub loop-i-preserved : goal.loop-i-preserved
-loop-i-preserved c = let pair = c.pair_right-right.ensures ∙ ap (pair_right (get_or c.args.octets.now (2 * c.loop-i.i) 0) (get_or c.args.octets.now (2 * c.loop-i.i + 1) 0)) (to_z-of_z (record { sfits = c.pair_right-arg-1.given })) in
+loop-i-preserved c = let pair = c.pair_right-right.ensures ∙ ap (pair_right (get_or c.args.octets.now (2 * c.loop-i.i) 0) (get_or c.args.octets.now (2 * c.loop-i.i + 1) 0)) (to_z-of_z {w = w16} {z = get_or c.args.table.now c.loop-i.i (pos 0)} (record { sfits = c.pair_right-arg-1.given })) in
     (omega arith, c.loop-i.invariant.1, sym (with_pair c.args.octets.now c.args.table.now c.loop-i.i c.loop-i.right _ (omega arith) c.loop-i.invariant.1 pair) ∙ c.loop-i.invariant.2)
 
 pub returns : goal.returns

@@ -6,10 +6,6 @@ use Rattle.walks.specs.Walk.{Ready}
 use Rattle.walks.specs.declared.ReadAs.{ReadAs}
 use Rattle.walks.proofs.judge7.Goals as goal
 
--- what being ready says in the format at hand
-ready : (s : tie.Start) {f : ReadAs} → s.args.format ≡ f → Ready f s.args.s.now s.args.x
-ready s e = subst (λ (f : ReadAs). Ready f s.args.s.now s.args.x) e s.requires.1
-
 pub returns-in-RunLength : goal.returns-in-RunLength
 unfolding L.base_checks
 returns-in-RunLength c = rw c.in-RunLength.is c.judge7.ensures
@@ -23,7 +19,10 @@ unfolding L.any_data_checks
 returns-in-AnyData c = rw c.in-AnyData.is c.judge_any7.ensures
 
 pub judge7-requires : goal.judge7-requires
-judge7-requires c = record { at_in_bounds = c.requires.at_in_bounds; section3_bound = ready (goal.at.judge7-requires c).Start c.in-RunLength.is }
+judge7-requires c = 
+    let ready : {f : ReadAs} → c.args.format ≡ f → Ready f c.args.s.now c.args.x = λ e. subst (λ (f : ReadAs). Ready f c.args.s.now c.args.x) e c.requires.ready in record { at_in_bounds = c.requires.at_in_bounds; section3_bound = ready c.in-RunLength.is }
 
 pub judge7-requires-in-DualPolarisation : goal.judge7-requires-in-DualPolarisation
-judge7-requires-in-DualPolarisation c = ready (goal.at.judge7-requires-in-DualPolarisation c).Start c.in-DualPolarisation.is
+judge7-requires-in-DualPolarisation c = 
+    let ready : {f : ReadAs} → c.args.format ≡ f → Ready f c.args.s.now c.args.x = λ e. subst (λ (f : ReadAs). Ready f c.args.s.now c.args.x) e c.requires.ready in
+    ready c.in-DualPolarisation.is
