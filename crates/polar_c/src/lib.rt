@@ -1,4 +1,4 @@
-// The library's public calls by C's rules, for C and Rust: numbers and slices alone. A slice passes as a pointer and a length, an array as a pointer.
+// The library's public calls for C and Rust, of numbers and slices alone: `polar_c_c` exports each of them to C with the same clauses.
 // Each call returns 0, or a refusal in one word: FORMAT.md's number + 256 x its place. The words of an answer go to a lent array; on a refusal nothing lent
 // has changed. Nothing is decided here: the crates below decide, and `c_words` says how each of their answers goes out.
 #![tactic(auto)]
@@ -15,8 +15,7 @@ use index::RayRecord;
 // ---- runs, without a file
 
 // Run check: what run read would find, with nothing lent.
-#[unsafe(no_mangle)]
-pub extern "C" fn polar_run_check(octets: &[u8], v: u64, n: usize) -> u64
+pub fn polar_run_check(octets: &[u8], v: u64, n: usize) -> u64
     ensures { RunCheckCall v n octets.now result }
 {
     let octet = c_words::narrow_v(v);
@@ -24,8 +23,7 @@ pub extern "C" fn polar_run_check(octets: &[u8], v: u64, n: usize) -> u64
 }
 
 // Run read: n levels at the front of `out`.
-#[unsafe(no_mangle)]
-pub extern "C" fn polar_run_read(octets: &[u8], v: u64, n: usize, out: &mut [u8]) -> u64
+pub fn polar_run_read(octets: &[u8], v: u64, n: usize, out: &mut [u8]) -> u64
     ensures { RunReadCall v n octets.now out.old result out.new }
 {
     let octet = c_words::narrow_v(v);
@@ -33,8 +31,7 @@ pub extern "C" fn polar_run_read(octets: &[u8], v: u64, n: usize, out: &mut [u8]
 }
 
 // Run write: the octets for the levels at the front of `out`; `answer` is V, number of octets.
-#[unsafe(no_mangle)]
-pub extern "C" fn polar_run_write(levels: &[u8], out: &mut [u8], answer: &mut [u64; 2]) -> u64
+pub fn polar_run_write(levels: &[u8], out: &mut [u8], answer: &mut [u64; 2]) -> u64
     ensures { RunWriteCall levels.now out.old answer.old result out.new answer.new }
 {
     c_words::put_write(bare::run_write(levels, out), answer)
@@ -43,32 +40,28 @@ pub extern "C" fn polar_run_write(levels: &[u8], out: &mut [u8], answer: &mut [u
 // ---- files
 
 // Open: `answer` is product, year, month, day, hour, minute, second, site, number of cuts.
-#[unsafe(no_mangle)]
-pub extern "C" fn polar_open(file: &[u8], answer: &mut [u64; 9]) -> u64
+pub fn polar_open(file: &[u8], answer: &mut [u64; 9]) -> u64
     ensures { OpenCall file.now answer.old result answer.new }
 {
     c_words::put_open(polar::open(file), answer)
 }
 
 // Cut: what sections 3 and 4 say of one cut.
-#[unsafe(no_mangle)]
-pub extern "C" fn polar_cut(file: &[u8], cut: usize, answer: &mut [i64; 10]) -> u64
+pub fn polar_cut(file: &[u8], cut: usize, answer: &mut [i64; 10]) -> u64
     ensures { CutCall file.now cut answer.old result answer.new }
 {
     c_words::put_cut(polar::cut_info(file, cut), answer)
 }
 
 // Ray levels: Nb levels at the front of `levels`.
-#[unsafe(no_mangle)]
-pub extern "C" fn polar_ray_levels(file: &[u8], cut: usize, ray: usize, levels: &mut [u8]) -> u64
+pub fn polar_ray_levels(file: &[u8], cut: usize, ray: usize, levels: &mut [u8]) -> u64
     ensures { RayLevelsCall file.now cut ray levels.old result levels.new }
 {
     c_words::ray_return(polar::ray_levels(file, cut, ray, levels))
 }
 
 // Ray values: Nb marks, and the value at each measured place.
-#[unsafe(no_mangle)]
-pub extern "C" fn polar_ray_values(
+pub fn polar_ray_values(
     file: &[u8],
     cut: usize,
     ray: usize,
@@ -81,8 +74,7 @@ pub extern "C" fn polar_ray_values(
 }
 
 // Bin value: `value` is set where the bin is measured; `answer` is the mark.
-#[unsafe(no_mangle)]
-pub extern "C" fn polar_bin_value(
+pub fn polar_bin_value(
     file: &[u8],
     cut: usize,
     ray: usize,
@@ -96,8 +88,7 @@ pub extern "C" fn polar_bin_value(
 }
 
 // Stretches: four words to an entry at the front of `words`; `answer` is count of entries, the next point's ray and bin.
-#[unsafe(no_mangle)]
-pub extern "C" fn polar_stretches(
+pub fn polar_stretches(
     file: &[u8],
     cut: usize,
     t: i64,
@@ -116,8 +107,7 @@ pub extern "C" fn polar_stretches(
 }
 
 // The same at the house threshold.
-#[unsafe(no_mangle)]
-pub extern "C" fn polar_house_stretches(
+pub fn polar_house_stretches(
     file: &[u8],
     cut: usize,
     ray: usize,
@@ -133,8 +123,7 @@ pub extern "C" fn polar_house_stretches(
 // ---- an index of a cut's rays, and rays by its records
 
 // Build an index: a record for each ray at the front of `records`. Proved by hand: the borrow checker covers no slice of structs.
-#[unsafe(no_mangle)]
-pub extern "C" fn polar_build_index(file: &[u8], cut: usize, records: &mut [RayRecord]) -> u64
+pub fn polar_build_index(file: &[u8], cut: usize, records: &mut [RayRecord]) -> u64
     ensures { BuildIndexCall file.now cut records.old result records.new }
 {
     let built = records::build_index(file, cut, records);
@@ -142,8 +131,7 @@ pub extern "C" fn polar_build_index(file: &[u8], cut: usize, records: &mut [RayR
 }
 
 // Ray levels by a record: Nb levels, of what decoding from there gives, at the front of `levels`.
-#[unsafe(no_mangle)]
-pub extern "C" fn polar_ray_levels_from(
+pub fn polar_ray_levels_from(
     file: &[u8],
     cut: usize,
     ray: usize,
@@ -158,8 +146,7 @@ pub extern "C" fn polar_ray_levels_from(
 }
 
 // Ray values by a record: Nb marks, and the value at each measured place.
-#[unsafe(no_mangle)]
-pub extern "C" fn polar_ray_values_from(
+pub fn polar_ray_values_from(
     file: &[u8],
     cut: usize,
     ray: usize,
@@ -177,24 +164,21 @@ pub extern "C" fn polar_ray_values_from(
 // ---- dual-polarisation files
 
 // Open: `answer` is parameter, year, month, day, hour, minute, second, site, number of cuts.
-#[unsafe(no_mangle)]
-pub extern "C" fn polar_dual_open(file: &[u8], answer: &mut [u64; 9]) -> u64
+pub fn polar_dual_open(file: &[u8], answer: &mut [u64; 9]) -> u64
     ensures { DualOpenCall file.now answer.old result answer.new }
 {
     c_words::put_dual_open(dualpol::open(file), answer)
 }
 
 // Cut: `answer` is Nb, Nr, latitude, longitude, Dx, Dstart.
-#[unsafe(no_mangle)]
-pub extern "C" fn polar_dual_cut(file: &[u8], cut: usize, answer: &mut [i64; 6]) -> u64
+pub fn polar_dual_cut(file: &[u8], cut: usize, answer: &mut [i64; 6]) -> u64
     ensures { DualCutCall file.now cut answer.old result answer.new }
 {
     c_words::put_dual_cut(dualpol::cut_info(file, cut), answer)
 }
 
 // Bin value: `value` is set where the bin is measured; `answer` is the mark.
-#[unsafe(no_mangle)]
-pub extern "C" fn polar_dual_bin_value(
+pub fn polar_dual_bin_value(
     file: &[u8],
     cut: usize,
     ray: usize,

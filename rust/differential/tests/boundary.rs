@@ -105,7 +105,7 @@ fn passed(kind: &str) -> Vec<String> {
 
 /// The types that each exported function of the library takes and gives, by its source.
 fn in_library() -> BTreeMap<String, (Vec<String>, String)> {
-    let text = source("crates/polar_c/src/lib.rt");
+    let text = source("crates/polar_c_c/src/lib.rt");
     let exported = text.split("pub extern \"C\" fn ").skip(1);
     exported
         .map(|part| {
