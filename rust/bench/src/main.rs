@@ -8,7 +8,7 @@ mod runs;
 mod timing;
 
 fn main() {
-    let library = if cfg!(target_arch = "x86_64") { "the archive of rt staticlib" } else { "the same module compiled for this machine" };
+    let library = if cfg!(target_arch = "x86_64") { "the archive of rt lib" } else { "the same crate compiled for this machine" };
     println!("{}, {library}; least times and the middle ratio of at least 41 pairs", std::env::consts::ARCH);
     let wanted: Vec<String> = std::env::args().skip(1).collect();
     let asked = |name: &str| wanted.is_empty() || wanted.iter().any(|word| word == name);
