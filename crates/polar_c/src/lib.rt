@@ -122,7 +122,7 @@ pub fn polar_house_stretches(
 
 // ---- an index of a cut's rays, and rays by its records
 
-// Build an index: a record for each ray at the front of `records`. Proved by hand: the borrow checker covers no slice of structs.
+// Build an index: a record for each ray at the front of `records`.
 pub fn polar_build_index(file: &[u8], cut: usize, records: &mut [RayRecord]) -> u64
     ensures { BuildIndexCall file.now cut records.old result records.new }
 {
