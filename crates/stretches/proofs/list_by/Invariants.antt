@@ -6,9 +6,9 @@ use Rattle.stretches.specs.Call.{stretches_from}
 use Rattle.stretches.proofs.Going.{promised, Going, due}
 use Rattle.stretches.proofs.list_by.Given as goal
 
--- the inner loop: what is due is what was due as it began
+-- the inner loop: what is due is what is promised
 abbrev pub invariant-loop-bin : goal.invariant-loop-bin
-invariant-loop-bin l = Going (kind_by_table l.kinds) l.v l.nb l.nr l.octets l.at l.ray l.bin l.first l.held × (due (kind_by_table l.kinds) l.v l.nb l.nr l.octets l.from l.cap l.initial.out l.initial.count l.initial.ray l.initial.first ≡ due (kind_by_table l.kinds) l.v l.nb l.nr l.octets l.from l.cap l.out l.count l.ray l.first)
+invariant-loop-bin l = Going (kind_by_table l.kinds) l.v l.nb l.nr l.octets l.at l.ray l.bin l.first l.held × (promised l.nr l.fn.out (stretches_from (kind_by_table l.kinds) l.v l.octets l.nb l.nr l.from) ≡ due (kind_by_table l.kinds) l.v l.nb l.nr l.octets l.from l.cap l.out l.count l.ray l.first)
 
 abbrev pub decreases-loop-bin : goal.decreases-loop-bin
 decreases-loop-bin l = l.bin
