@@ -1,34 +1,43 @@
-// Lists each file that an argument names, under its name: what the lister writes of many files, in one run.
+// Lists each file that an argument names, under its name: what the lister writes of many files, in one run. An argument of more than 4,096 octets is left
+// out. A file that cannot be opened, or whose name is not UTF-8, is no such file; a read or a write that fails ends the run with that error.
 #![tactic(auto)]
 
-use libc::STDOUT_FILENO;
+use std::env::FillError;
+use std::fs::File;
+use std::io;
+use std::io::Write;
+use std::rt::{Env, Files};
 
-fn sample(i: usize, words: &mut [u32; pages::WORDS], text: &mut [u8; pages::TEXT]) {
-    let mut path = io::buffer();
-    let length = os::arg(i, &mut path);
-    if os::errno() != 0 {
-        return;
-    }
-    io::write_all(STDOUT_FILENO, &path[..length]);
-    io::write_all(STDOUT_FILENO, b"\n");
-    let fd = os::open_read(&path[..length]);
-    if fd < 0 {
-        io::write_all(STDOUT_FILENO, b"no such file\n");
-        return;
-    }
+fn sample<W: Write>(
+    rt: &impl Files,
+    to: &mut W,
+    path: &[u8],
+    words: &mut [u32; pages::WORDS],
+    text: &mut [u8; pages::TEXT],
+) -> io::Result<()> {
+    to.write_all(path)?;
+    to.write_all(b"\n")?;
+    let Ok(name) = str::from_utf8(path) else {
+        return to.write_all(b"no such file\n");
+    };
+    let Ok(mut from) = File::open(rt, name) else {
+        return to.write_all(b"no such file\n");
+    };
     let mut file = [0u8; pages::FILE];
-    let n = io::read_full(fd, &mut file);
-    libc::close(fd);
-    pages::write_list(STDOUT_FILENO, &file[..n], words, text);
+    let n = pages::read_full(&mut from, &mut file)?;
+    pages::write_list(to, &file[..n], words, text)
 }
 
-fn main() {
+fn main(rt: HostRuntime) -> io::Result<()> {
     let mut words = [0u32; pages::WORDS];
     let mut text = [0u8; pages::TEXT];
-    let mut i = 1;
-    let count = os::arg_count();
-    while i < count {
-        sample(i, &mut words, &mut text);
-        i += 1;
+    let mut path = [0u8; 4096];
+    for i in 1..usize::MAX {
+        match rt.arg(i, &mut path) {
+            Ok(n) => sample(&rt, &mut rt.stdout(), &path[..n], &mut words, &mut text)?,
+            Err(FillError::TooLong) => {}
+            Err(FillError::NotPresent) => break,
+        }
     }
+    Ok(())
 }
