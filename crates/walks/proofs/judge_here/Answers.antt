@@ -29,7 +29,7 @@ returns-then-at-end c = rw (eq-eqb c.args.at c.args.end c.if-at-end.true, c.chec
 
 pub judge7-requires : goal.judge7-requires
 unfolding number_at
-judge7-requires c = 
+judge7-requires c =
     let asked : (c.args.at + length_at c.args.s.now c.args.at ≤ length c.args.s.now) × (c.number_at-n.result ≡ 7 → Ready c.args.format c.args.s.now c.args.x) = let fr = framed_is c.args.s.now c.args.end c.args.x c.args.at (sym c.is_framed.ensures ∙ c.if-is_framed.true) in
     let reach = fr.reach in
     (omega arith, λ (e : c.number_at-n.result ≡ 7). c.requires.1 (before_seven c.args.x.previous _ fr.allowed (sym c.number_at-n.ensures ∙ e))) in
@@ -41,7 +41,7 @@ returns-then-n-eq7 c = c.judge7.ensures ∙ seven (own_of c.args.format) c.args.
 
 pub judge-requires : goal.judge-requires
 unfolding number_at
-judge-requires c = 
+judge-requires c =
     let asked : (c.args.at + length_at c.args.s.now c.args.at ≤ length c.args.s.now) × (c.number_at-n.result ≡ 7 → Ready c.args.format c.args.s.now c.args.x) = let fr = framed_is c.args.s.now c.args.end c.args.x c.args.at (sym c.is_framed.ensures ∙ c.if-is_framed.true) in
     let reach = fr.reach in
     (omega arith, λ (e : c.number_at-n.result ≡ 7). c.requires.1 (before_seven c.args.x.previous _ fr.allowed (sym c.number_at-n.ensures ∙ e))) in record { at_in_bounds = (asked).0; fact = c.if-n-eq7.false }

@@ -17,13 +17,13 @@ pub judge_here-requires : goal.judge_here-requires
 judge_here-requires c = rw c.context_in.ensures ((c.requires.end_in, c.requires.ready))
 
 pub returns-then-at-end : goal.returns-then-at-end
-returns-then-at-end c = 
+returns-then-at-end c =
     let judged : c.judge_here.result ≡ first_fault (checks_at (own_of c.args.format) c.args.s.now c.args.end (context_in c.args.st) c.args.st.at) = rw (sym c.context_in.ensures) c.judge_here.ensures in
     sym (step_done (own_of c.args.format) c.args.s.now c.args.end c.args.st (sym judged ∙ c.in-Accepted.is) c.if-at-end.true)
 
 pub passed-requires : goal.passed-requires
 unfolding length_at
-passed-requires c = 
+passed-requires c =
     let judged : c.judge_here.result ≡ first_fault (checks_at (own_of c.args.format) c.args.s.now c.args.end (context_in c.args.st) c.args.st.at) = rw (sym c.context_in.ensures) c.judge_here.ensures in
     let fr = fine_framed (own_of c.args.format) c.args.s.now c.args.end (context_in c.args.st) c.args.st.at c.if-at-end.false (sym judged ∙ c.in-Accepted.is) in
     let reach : c.args.st.at + length_at c.args.s.now c.args.st.at ≤ c.args.end = fr.reach in
@@ -31,13 +31,13 @@ passed-requires c =
     (omega arith, c.requires.few)
 
 pub returns-in-Refused : goal.returns-in-Refused
-returns-in-Refused c = 
+returns-in-Refused c =
     let judged : c.judge_here.result ≡ first_fault (checks_at (own_of c.args.format) c.args.s.now c.args.end (context_in c.args.st) c.args.st.at) = rw (sym c.context_in.ensures) c.judge_here.ensures in
     sym (step_refused (own_of c.args.format) c.args.s.now c.args.end c.args.st _ (sym judged ∙ c.in-Refused.is))
 
 pub returns-else-at-end : goal.returns-else-at-end
 unfolding length_at number_at
-returns-else-at-end c = 
+returns-else-at-end c =
     let judged : c.judge_here.result ≡ first_fault (checks_at (own_of c.args.format) c.args.s.now c.args.end (context_in c.args.st) c.args.st.at) = rw (sym c.context_in.ensures) c.judge_here.ensures in
     let len = c.place.ensures ∙ c.length_at.ensures in
     ap Next (c.passed.ensures ∙ (λ i. past c.args.st (c.number_at.ensures i) (len i)))
