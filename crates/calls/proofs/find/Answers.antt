@@ -5,5 +5,5 @@ use mathlib.Core.Path.{◌∙◌, ap}
 use Rattle.calls.proofs.find.Goals as goal
 
 pub returns : goal.returns
-returns c = 
+returns c =
     c.sought_by.ensures ∙ ap (sought_by c.args.i) c.walk.ensures ∙ sought_walked c.args.i _

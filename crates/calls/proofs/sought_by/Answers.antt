@@ -5,11 +5,11 @@ use mathlib.Core.Path.{ap}
 use Rattle.calls.proofs.sought_by.Goals as goal
 
 pub returns-then-i-f : goal.returns-then-i-f
-returns-then-i-f c = 
+returns-then-i-f c =
     rw (c.in-Accepted.is, lt-ltb _ _ c.if-i-f.true)
 
 pub returns-else-i-f : goal.returns-else-i-f
-returns-else-i-f c = 
+returns-else-i-f c =
     rw (c.in-Accepted.is, le-ltb _ _ c.if-i-f.false) (ap Refused c.refuse.ensures)
 
 pub returns-in-Refused : goal.returns-in-Refused

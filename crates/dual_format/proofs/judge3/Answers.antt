@@ -13,14 +13,14 @@ use Rattle.dual_format.proofs.judge3.Goals as goal
 
 pub returns-then-len-lt58 : goal.returns-then-len-lt58
 unfolding with_lists
-returns-then-len-lt58 c = 
+returns-then-len-lt58 c =
     let len : c.wide-len.result ≡ length_at c.args.s.now c.args.at = c.wide-len.ensures ∙ c.length_at.ensures in
     let n = len in
     rw (ne_eqb (length_at c.args.s.now c.args.at) (length3 c.args.s.now c.args.at) (λ e. omega (arith, c.if-len-lt58.true))) c.refused.ensures
 
 pub returns : goal.returns
 unfolding rules3 scan_rules points_at
-returns c = 
+returns c =
     let len : c.wide-len.result ≡ length_at c.args.s.now c.args.at = c.wide-len.ensures ∙ c.length_at.ensures in
     let inside : c.args.at + 58 ≤ length c.args.s.now = omega (arith, len, c.requires) in
     let to = c.args.at + 58 in

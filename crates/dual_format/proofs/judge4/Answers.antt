@@ -13,14 +13,14 @@ use Rattle.dual_format.proofs.judge4.Goals as goal
 
 pub returns-then-len-lt61 : goal.returns-then-len-lt61
 unfolding with_lists
-returns-then-len-lt61 c = 
+returns-then-len-lt61 c =
     let len : c.wide-len.result ≡ length_at c.args.s.now c.args.at = c.wide-len.ensures ∙ c.length_at.ensures in
     let n = len in
     rw (lt-leb (least4 c.args.s.now c.args.at (rays_at c.args.s.now c.args.x.section3)) (length_at c.args.s.now c.args.at) (omega (arith, c.if-len-lt61.true))) c.refused.ensures
 
 pub returns : goal.returns
 unfolding rules4 parameter_at site_at
-returns c = 
+returns c =
     let len : c.wide-len.result ≡ length_at c.args.s.now c.args.at = c.wide-len.ensures ∙ c.length_at.ensures in
     let inside : c.args.at + 61 ≤ length c.args.s.now = omega (arith, len, c.requires) in
     let to = c.args.at + 61 in

@@ -15,8 +15,8 @@ pub returns-then-length_at-ne21 : goal.returns-then-length_at-ne21
 returns-then-length_at-ne21 c = rw (ne_eqb _ 21 (λ e. c.if-length_at-ne21.true (c.length_at.ensures ∙ e))) c.refused.ensures
 
 pub returns : goal.returns
-unfolding rules5 width_rule reference_at
-returns c = 
+unfolding rules5 reference_at
+returns c =
     let inside : c.args.at + 21 ≤ length c.args.s.now = omega (arith, c.length_at.ensures, c.requires) in
     let to = c.args.at + 21 in
     let i = inside in

@@ -10,7 +10,7 @@ pub returns-then-l-rays_in : goal.returns-then-l-rays_in
 returns-then-l-rays_in c = to_list c.args.file.now c.args.part c.args.l c.requires (rw (← c.rays_in.ensures) c.if-l-rays_in.true)
 
 pub returns-then-number-part : goal.returns-then-number-part
-returns-then-number-part c = 
+returns-then-number-part c =
     to_head c.args.file.now c.args.part c.args.l c.requires (rw (← c.rays_in.ensures) c.if-l-rays_in.false) c.if-number-part.true c.next_cut-cut.result c.next_cut-cut.ensures
     c.cut_begun.result c.cut_begun.ensures
 

@@ -11,7 +11,7 @@ pub loop-at-init : goal.loop-at-init
 loop-at-init c = (no_page c.args.file.now c.args.words.now c.args.text.now c.args.p c.requires.sound, refl)
 
 pub step-s-requires : goal.step-s-requires
-step-s-requires c = 
+step-s-requires c =
     let same = page_length _ _ _ _ _ _ c.loop-at.invariant.0 in record { sound = c.loop-at.invariant.0.sound; per_entry_in_bounds = (omega (arith, c.requires.per_entry_in_bounds.0, c.loop-at.invariant.1), omega (arith, c.requires.per_entry_in_bounds.1)) }
 
 pub loop-at-smaller : goal.loop-at-smaller

@@ -9,10 +9,6 @@ use Rattle.listing.proofs.put_first_line.Goals as goal
 
 pub returns : goal.returns
 unfolding head_of
-returns c = 
-    
-    
-    
-    
+returns c =
     let n = c.product_number-product.ensures ∙ ap product_number c.product_in.ensures in
     named (λ i. head_line c.args.part.number (n i) (c.bins_in-bins.ensures i) (c.rays_in-rays.ensures i) house_threshold) c.put_head.ensures
