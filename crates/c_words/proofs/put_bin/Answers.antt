@@ -6,10 +6,10 @@ pub word_of-requires : goal.word_of-requires
 word_of-requires c = rw c.in-Refused.is at c.requires
 
 pub returns-in-Missing : goal.returns-in-Missing
-returns-in-Missing c = let whole = rw c.in-Missing.is (refl, (refl, refl)) in record { value = whole.0; value_after = whole.1.0; words_after = whole.1.1 }
+returns-in-Missing c = record { value = rw c.in-Missing.is; value_after = rw c.in-Missing.is; words_after = rw c.in-Missing.is }
 
 pub returns-in-Value : goal.returns-in-Value
-returns-in-Value c = let whole = rw c.in-Value.is (refl, (refl, refl)) in record { value = whole.0; value_after = whole.1.0; words_after = whole.1.1 }
+returns-in-Value c = record { value = rw c.in-Value.is; value_after = rw c.in-Value.is; words_after = rw c.in-Value.is }
 
 pub returns-in-Refused : goal.returns-in-Refused
-returns-in-Refused c = let whole = rw c.in-Refused.is (c.word_of.ensures, (refl, refl)) in record { value = whole.0; value_after = whole.1.0; words_after = whole.1.1 }
+returns-in-Refused c = record { value = rw c.in-Refused.is c.word_of.ensures; value_after = rw c.in-Refused.is; words_after = rw c.in-Refused.is }

@@ -5,7 +5,4 @@ use Rattle.c_words.proofs.Signed.{unsigned_word}
 use Rattle.c_words.proofs.put_info.Goals as goal
 
 pub returns : goal.returns
-returns c = 
-    
-    c.put_elevation.ensures
-    ∙ rw (c.put_grid.ensures, unsigned_word c.args.info.start_azimuth (omega (arith, c.struct_known-2-1.given.1.0)), unsigned_word c.args.info.mode (omega (arith, c.struct_known-2-1.given.1.1.0)))
+returns c = c.put_elevation.ensures ∙ rw (c.put_grid.ensures, unsigned_word c.args.info.start_azimuth (omega arith), unsigned_word c.args.info.mode (omega arith))

@@ -6,7 +6,7 @@ pub word_of-requires : goal.word_of-requires
 word_of-requires c = rw c.in-Refused.is at c.requires
 
 pub returns-in-Listed : goal.returns-in-Listed
-returns-in-Listed c = let whole = rw c.in-Listed.is (refl, refl) in record { value = whole.0; words_after = whole.1 }
+returns-in-Listed c = record { value = rw c.in-Listed.is; words_after = rw c.in-Listed.is }
 
 pub returns-in-Refused : goal.returns-in-Refused
-returns-in-Refused c = let whole = rw c.in-Refused.is (c.word_of.ensures, refl) in record { value = whole.0; words_after = whole.1 }
+returns-in-Refused c = record { value = rw c.in-Refused.is c.word_of.ensures; words_after = rw c.in-Refused.is }

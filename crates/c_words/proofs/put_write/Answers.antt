@@ -3,4 +3,4 @@ use mathlib.Core.Path.{refl}
 use Rattle.c_words.proofs.put_write.Goals as goal
 
 pub returns-in-Wrote : goal.returns-in-Wrote
-returns-in-Wrote c = let whole = rw c.in-Wrote.is (refl, refl) in record { value = whole.0; words_after = whole.1 }
+returns-in-Wrote c = record { value = rw c.in-Wrote.is; words_after = rw c.in-Wrote.is }

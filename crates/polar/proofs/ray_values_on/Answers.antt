@@ -21,4 +21,5 @@ pub returns : goal.returns
 unfolding ray_on
 returns c = 
     
-    let h = judged_fine _ _ (sym c.judge_ray-judged.ensures ∙ c.in_default.is) in let whole = (rw (← c.least-room.ensures, h.0, h.1), c.readings_into.ensures) in record { value = whole.0; marks_after = whole.1.0; values_after = whole.1.1 }
+    let h = judged_fine _ _ (sym c.judge_ray-judged.ensures ∙ c.in_default.is) in
+    record { value = rw (← c.least-room.ensures, h.0, h.1); marks_after = c.readings_into.ensures.marks_after; values_after = c.readings_into.ensures.values_after }
