@@ -6,15 +6,14 @@ use mathlib.Core.Path.{sym, ◌∙◌, subst}
 use Rattle.dualpol.proofs.bin_value.Goals as goal
 
 pub bin_value_on-requires : goal.bin_value_on-requires
-bin_value_on-requires c = 
+bin_value_on-requires c =
     let told = sym c.find_dual.ensures ∙ c.in-Cut.is in
     dual_good_cut _ _ _ told
 
 pub returns-in-Cut : goal.returns-in-Cut
 unfolding bin_answer
-returns-in-Cut c = 
+returns-in-Cut c =
     let told = sym c.find_dual.ensures ∙ c.in-Cut.is in
-    
     record {
       answer = c.bin_value_on.ensures.exact ∙ sym (on_found _ _ _ _ _ told);
       near = subst (λ (x : Cut). RightIn c.args.file.now c.args.ray c.args.bin x c.bin_value_on.result) (sym (cut_found _ _ _ told)) c.bin_value_on.ensures.near;

@@ -14,14 +14,11 @@ unfolding bin_on
 returns-in-Refused c = record { exact = sym (judged_bad Refused c.args.c true _ _ _ _ (sym c.judge_bin-judged.ensures ∙ c.in-Refused.is)); near = tt }
 
 pub told_in-requires : goal.told_in-requires
-told_in-requires c = 
-    
+told_in-requires c =
     let h = and_true_both _ _ (judged_fine _ _ (sym c.judge_bin-judged.ensures ∙ c.in_default.is)).0 in
     (c.requires, ltb-true _ _ h.0, ltb-true _ _ h.1)
 
 pub returns : goal.returns
 unfolding bin_on
-returns c = 
-    
-    
+returns c =
     let h = judged_fine _ _ (sym c.judge_bin-judged.ensures ∙ c.in_default.is) in record { exact = rw h.0 (c.bin_of.ensures ∙ ap bin_of c.told_in.ensures.exact); near = rw c.bin_of.ensures (right_is c.args.file.now c.args.c c.args.ray c.args.bin c.told_in.result c.told_in.ensures.near) }

@@ -7,7 +7,7 @@ use Rattle.dualpol.proofs.cut_info.Goals as goal
 
 pub returns-in-Cut : goal.returns-in-Cut
 unfolding cut_answer
-returns-in-Cut c = 
+returns-in-Cut c =
     let told = sym c.find_dual.ensures ∙ c.in-Cut.is in
     ap Cut c.grid_at.ensures ∙ sym (on_found _ _ _ _ _ told)
 

@@ -12,18 +12,18 @@ use mathlib.Core.Path.{◌≡◌, ◌∙◌}
 use Rattle.dualpol.proofs.told_in.Goals as goal
 
 pub overflow_mul-n : goal.overflow_mul-n
-overflow_mul-n c = 
+overflow_mul-n c =
     let cells-few : (nb : ℕ) → nb ≡ bins_in c.args.file.now c.args.c → c.args.ray * nb + c.args.bin ≤ 2097152 = λ nb e. few_cells c.args.ray c.args.bin (rays_in c.args.file.now c.args.c) nb c.requires.1 (omega (arith, c.requires.2)) c.requires.0.rays_few (omega (arith, c.requires.0.bins_few)) in
     record { fits = omega (arith, cells-few c.bins_in.result c.bins_in.ensures) }
 
 pub overflow_add-n : goal.overflow_add-n
-overflow_add-n c = 
+overflow_add-n c =
     let cells-few : (nb : ℕ) → nb ≡ bins_in c.args.file.now c.args.c → c.args.ray * nb + c.args.bin ≤ 2097152 = λ nb e. few_cells c.args.ray c.args.bin (rays_in c.args.file.now c.args.c) nb c.requires.1 (omega (arith, c.requires.2)) c.requires.0.rays_few (omega (arith, c.requires.0.bins_few)) in
     record { fits = omega (arith, cells-few c.bins_in.result c.bins_in.ensures) }
 
 pub cell_at-requires : goal.cell_at-requires
 unfolding width_in width_at
-cell_at-requires c = 
+cell_at-requires c =
     let cells-few : (nb : ℕ) → nb ≡ bins_in c.args.file.now c.args.c → c.args.ray * nb + c.args.bin ≤ 2097152 = λ nb e. few_cells c.args.ray c.args.bin (rays_in c.args.file.now c.args.c) nb c.requires.1 (omega (arith, c.requires.2)) c.requires.0.rays_few (omega (arith, c.requires.0.bins_few)) in
     (omega (arith, c.requires.0.inside), cells-few c.bins_in.result c.bins_in.ensures, rw c.width_at-width.ensures c.requires.0.packing.cells)
 

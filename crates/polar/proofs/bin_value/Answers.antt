@@ -5,13 +5,13 @@ use mathlib.Core.Path.{sym, ◌∙◌}
 use Rattle.polar.proofs.bin_value.Goals as goal
 
 pub bin_value_on-requires : goal.bin_value_on-requires
-bin_value_on-requires c = 
+bin_value_on-requires c =
     let told = sym c.find.ensures ∙ c.in-Cut.is in
     good_cut _ _ _ told
 
 pub returns-in-Cut : goal.returns-in-Cut
 unfolding bin_answer
-returns-in-Cut c = 
+returns-in-Cut c =
     let told = sym c.find.ensures ∙ c.in-Cut.is in
     record { answer = c.bin_value_on.ensures ∙ sym (on_found _ _ _ _ _ told) }
 

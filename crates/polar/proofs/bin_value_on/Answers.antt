@@ -13,13 +13,11 @@ use Rattle.polar.proofs.bin_value_on.Goals as goal
 
 pub returns-in-Refused : goal.returns-in-Refused
 unfolding bin_on
-returns-in-Refused c = 
-    
+returns-in-Refused c =
     sym (judged_bad Refused c.args.c true _ _ _ _ (sym c.judge_bin-judged.ensures ∙ c.in-Refused.is))
 
 pub level_in-requires : goal.level_in-requires
-level_in-requires c = 
-    
+level_in-requires c =
     let h = and_true_both _ _ (judged_fine _ _ (sym c.judge_bin-judged.ensures ∙ c.in_default.is)).0 in record { good_cut = c.requires; ray_bound = (ltb-true _ _ h.0, ltb-true _ _ h.1) }
 
 pub reading_of-requires : goal.reading_of-requires
@@ -27,7 +25,6 @@ reading_of-requires c = let p = ap level_count c.product_in-product.ensures in o
 
 pub returns : goal.returns
 unfolding bin_on
-returns c = 
-    
+returns c =
     let h = judged_fine _ _ (sym c.judge_bin-judged.ensures ∙ c.in_default.is) in
     rw h.0 (c.bin_of.ensures ∙ ap bin_of (c.reading_of.ensures ∙ (λ i. reading_of (c.product_in-product.ensures i) (c.level_in.ensures.0 i))))

@@ -7,7 +7,7 @@ use Rattle.polar.proofs.cut_info.Goals as goal
 
 pub returns-in-Cut : goal.returns-in-Cut
 unfolding cut_answer
-returns-in-Cut c = 
+returns-in-Cut c =
     let told = sym c.find.ensures ∙ c.in-Cut.is in
     record { answer = ap Cut c.info_of.ensures ∙ sym (on_found _ _ _ _ _ told) }
 

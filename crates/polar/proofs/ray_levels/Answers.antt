@@ -9,16 +9,14 @@ use mathlib.Core.Path.{refl, sym, ◌∙◌, ap}
 use Rattle.polar.proofs.ray_levels.Goals as goal
 
 pub ray_levels_on-requires : goal.ray_levels_on-requires
-ray_levels_on-requires c = 
+ray_levels_on-requires c =
     let told = sym c.find.ensures ∙ c.in-Cut.is in
     good_cut _ _ _ told
 
 pub returns-in-Cut : goal.returns-in-Cut
 unfolding ray_answer levels_after
-returns-in-Cut c = 
+returns-in-Cut c =
     let told = sym c.find.ensures ∙ c.in-Cut.is in
-    
-    
     record {
       answer = c.ray_levels_on.ensures.value ∙ sym (on_found _ _ _ _ _ told);
       after =

@@ -10,16 +10,14 @@ use mathlib.Core.Path.{refl, sym, ◌∙◌, ap}
 use Rattle.polar.proofs.ray_values.Goals as goal
 
 pub ray_values_on-requires : goal.ray_values_on-requires
-ray_values_on-requires c = 
+ray_values_on-requires c =
     let told = sym c.find.ensures ∙ c.in-Cut.is in
     good_cut _ _ _ told
 
 pub returns-in-Cut : goal.returns-in-Cut
 unfolding ray_answer marks_after values_after
-returns-in-Cut c = 
+returns-in-Cut c =
     let told = sym c.find.ensures ∙ c.in-Cut.is in
-    
-    
     let same = sym (cut_found _ _ _ told) in
     record {
       answer = c.ray_values_on.ensures.value ∙ sym (on_found _ _ _ _ _ told);

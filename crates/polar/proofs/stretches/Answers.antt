@@ -11,16 +11,14 @@ use mathlib.Core.Path.{refl, sym, ◌∙◌, ap}
 use Rattle.polar.proofs.stretches.Goals as goal
 
 pub stretches_on-requires : goal.stretches_on-requires
-stretches_on-requires c = 
+stretches_on-requires c =
     let told = sym c.find.ensures ∙ c.in-Cut.is in
     good_cut _ _ _ told
 
 pub returns-in-Cut : goal.returns-in-Cut
 unfolding stretch_answer words_after
-returns-in-Cut c = 
+returns-in-Cut c =
     let told = sym c.find.ensures ∙ c.in-Cut.is in
-    
-    
     let back = to_z-of_z w32 c.args.t c.ranges.t in
     let same = sym (cut_found _ _ _ told) in
     record {

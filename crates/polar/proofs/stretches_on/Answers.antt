@@ -25,14 +25,14 @@ pub returns-in-Refused : goal.returns-in-Refused
 unfolding stretches_on
 returns-in-Refused c =
     let right : c.right_list-right.result ≡ right_on c.args.file.now c.args.c c.args.ray c.args.bin c.args.t =
-        c.right_list-right.ensures ∙ ap (right_on c.args.file.now c.args.c c.args.ray c.args.bin) (to_z-of_z w32 c.args.t c.ranges.t) in
+    c.right_list-right.ensures ∙ ap (right_on c.args.file.now c.args.c c.args.ray c.args.bin) (to_z-of_z w32 c.args.t c.ranges.t) in
     record { value = rw (← right) (sym (judged_bad Refused c.args.c true _ _ _ _ (sym c.judge-judged.ensures ∙ c.in-Refused.is))); words_after = refl }
 
 pub list_into-requires : goal.list_into-requires
 list_into-requires c =
     let h = judged_fine _ _ (sym c.judge-judged.ensures ∙ c.in_default.is) in
     let right : c.right_list-right.result ≡ right_on c.args.file.now c.args.c c.args.ray c.args.bin c.args.t =
-        c.right_list-right.ensures ∙ ap (right_on c.args.file.now c.args.c c.args.ray c.args.bin) (to_z-of_z w32 c.args.t c.ranges.t) in
+    c.right_list-right.ensures ∙ ap (right_on c.args.file.now c.args.c c.args.ray c.args.bin) (to_z-of_z w32 c.args.t c.ranges.t) in
     record { good_cut = c.requires; bin_value = (and_true_both (right_t c.args.t) _ (sym right ∙ h.0)).1 }
 
 pub returns : goal.returns
@@ -40,7 +40,7 @@ unfolding stretches_on
 returns c =
     let back = to_z-of_z w32 c.args.t c.ranges.t in
     let right : c.right_list-right.result ≡ right_on c.args.file.now c.args.c c.args.ray c.args.bin c.args.t =
-        c.right_list-right.ensures ∙ ap (right_on c.args.file.now c.args.c c.args.ray c.args.bin) back in
+    c.right_list-right.ensures ∙ ap (right_on c.args.file.now c.args.c c.args.ray c.args.bin) back in
     let h = judged_fine _ _ (sym c.judge-judged.ensures ∙ c.in_default.is) in
     record {
       value = rw (← right, h.0, h.1) (ap Listed (c.list_into.ensures.value ∙ ap (λ (t : ℤ). answer_of (rays_in c.args.file.now c.args.c) (length c.args.words.now) (stretches_in c.args.file.now c.args.c t c.args.ray c.args.bin)) back));

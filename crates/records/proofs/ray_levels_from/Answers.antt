@@ -9,16 +9,14 @@ use mathlib.Core.Path.{refl, sym, ◌∙◌, ap}
 use Rattle.records.proofs.ray_levels_from.Goals as goal
 
 pub ray_levels_from_on-requires : goal.ray_levels_from_on-requires
-ray_levels_from_on-requires c = 
+ray_levels_from_on-requires c =
     let told = sym c.find_any.ensures ∙ c.in-Cut.is in
     any_cut _ _ _ told
 
 pub returns-in-Cut : goal.returns-in-Cut
 unfolding from_answer levels_from
-returns-in-Cut c = 
+returns-in-Cut c =
     let told = sym c.find_any.ensures ∙ c.in-Cut.is in
-    
-    
     record {
       answer = c.ray_levels_from_on.ensures.value ∙ sym (on_found _ _ _ _ _ told);
       after = c.ray_levels_from_on.ensures.out_after ∙ ap (λ (x : Cut). if_written c.ray_levels_from_on.result (front (ray_from c.args.file.now x c.args.rec) c.args.out.now) c.args.out.now) (sym (cut_found _ _ _ told));

@@ -19,8 +19,6 @@ levels_from-requires c = record { any_data_cut = c.requires; c_in_bounds = leb-t
 
 pub returns : goal.returns
 unfolding from_on
-returns c = 
-    
-    
+returns c =
     let h = judged_fine _ _ (sym c.judge_ray-judged.ensures ∙ c.in_default.is) in
     let none = refuse Record c.args.c.section7 in record { value = rw (h.0, h.1) (c.by_record.ensures ∙ ap (λ (x : Bool). cond x Written (Refused none)) c.levels_from.ensures.value); out_after = written_if c.levels_from.result none _ _ _ _ c.by_record.ensures c.levels_from.ensures.out_after }

@@ -10,16 +10,14 @@ use mathlib.Core.Path.{refl, sym, ◌∙◌, ap}
 use Rattle.records.proofs.ray_values_from.Goals as goal
 
 pub ray_values_from_on-requires : goal.ray_values_from_on-requires
-ray_values_from_on-requires c = 
+ray_values_from_on-requires c =
     let told = sym c.find_any.ensures ∙ c.in-Cut.is in
     any_cut _ _ _ told
 
 pub returns-in-Cut : goal.returns-in-Cut
 unfolding from_answer marks_from values_from
-returns-in-Cut c = 
+returns-in-Cut c =
     let told = sym c.find_any.ensures ∙ c.in-Cut.is in
-    
-    
     let same = sym (cut_found _ _ _ told) in
     record {
       answer = c.ray_values_from_on.ensures.value ∙ sym (on_found _ _ _ _ _ told);
