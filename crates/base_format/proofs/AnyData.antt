@@ -1,6 +1,6 @@
 -- How a file that passes every check but 8 differs from an accepted one: in what its cuts' data decodes to, and in nothing else. An accepted file passes, with
 -- the same cuts; one that passes is accepted where each cut's data gives its bins; and one that is refused by another number than 8 is refused by just that.
-use Prim.Native.Nat.{ℕ, zero, suc, ◌<◌}
+use Prim.Native.Nat.{ℕ, suc, ◌<◌}
 use mathlib.Core.Path.{◌≡◌, refl, sym, ap, subst}
 use mathlib.Core.Bool.{Bool, true, false, cond}
 use mathlib.Core.List.{List, [], ◌∷◌}

@@ -1,5 +1,5 @@
 -- Each cut of an accepted file is good, and each of a file that is accepted but for its data is so but for its data: its section 3, wherever it stands, and its own sections 4 to 7 are those of `Accepted`.
-use Prim.Native.Nat.{ℕ, ◌*◌, ◌≤◌, ◌<◌}
+use Prim.Native.Nat.{ℕ, ◌*◌, ◌<◌}
 use mathlib.Core.Path.{◌≡◌, sym, subst}
 use mathlib.Core.List.{List}
 use mathlib.Core.Bool.{true}

@@ -1,13 +1,13 @@
 -- The record of a bin: how it is found run by run, and that decoding from it gives the bins from there on.
 use Prim.Native.Nat.{ℕ, zero, suc, ◌+◌, ◌-◌, ◌*◌, ◌≤◌, ◌<◌}
 use mathlib.Core.Path.{◌≡◌, refl, sym, ap, subst, ◌∙◌}
-use mathlib.Core.Bool.{Bool, true, false, cond}
+use mathlib.Core.Bool.{true}
 use mathlib.Core.List.{List, [], ◌∷◌, ◌++◌, append_assoc}
 use native.Mathlib.Omega.{arith}
 use native.Mathlib.Nat.{suc-mul, mul-le-mul, le_of_suc-le-suc}
 use lib.ListN.{length, take, drop, get_or, set, replicate, length-append, length-drop, length-replicate}
 use lib.Seq.{drop-drop, drop_at, drop-cons, drop-nil, set_at}
-use lib.Dec.{leb, ltb}
+use lib.Dec.{leb}
 use borrow.Author.Tests.{le-leb, lt-leb, lt-ltb, le-ltb, leb-true}
 use Rattle.runs.specs.Run.{levels, opens, gives, digit_sum, run_len}
 use Rattle.runs.specs.Inner.{Stands}

@@ -1,5 +1,5 @@
 -- FORMAT.md, "Rays by a record": "the offset in the data of the level octet whose run holds the ray's first bin, and how many bins of that run came before".
-use Rattle.std.specs.Prelude.{ℕ, zero, suc, ◌+◌, ◌-◌, List, [], ◌∷◌, Bool, true, false, cond, length, take, drop, get_or, leb, ltb}
+use Rattle.std.specs.Prelude.{ℕ, zero, suc, ◌+◌, ◌-◌, List, [], ◌∷◌, Bool, false, cond, length, take, drop, get_or, leb, ltb}
 use Rattle.runs.specs.Run.{levels, digit_sum, run_len}
 use Rattle.index.specs.declared.RayRecord.{RayRecord}
 

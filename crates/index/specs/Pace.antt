@@ -2,7 +2,6 @@
 use Rattle.std.specs.Prelude.{ℕ, ◌+◌, ◌-◌, ◌*◌, ◌≤◌, ◌<◌, ◌≡◌, Bool, ◌&&◌, List, length, take, drop, get_or, leb, ltb}
 use Rattle.runs.specs.Run.{levels, run_len}
 use Rattle.runs.specs.Inner.{InHand}
-use Rattle.index.specs.declared.RayRecord.{RayRecord}
 use Rattle.index.specs.declared.Pace.{Pace}
 use Rattle.index.specs.Index.{record_of}
 

@@ -5,10 +5,10 @@ use mathlib.Core.List.{List, [], ◌∷◌, ◌++◌, append_assoc}
 use native.Mathlib.Numerals.{add-one}
 use native.Mathlib.Omega.{arith}
 use lib.ListN.{length, take, drop, set, get_or, length-append, length-drop}
-use lib.Seq.{length-take-le, take-suc, take_at, take-add, drop-append-add, drop-drop, take-append_seam, drop-append_seam, get_or-drop}
+use lib.Seq.{length-take-le, take-suc, take_at, take-add, drop-append-add, drop-drop, take-append_seam, drop-append_seam}
 use Rattle.lent.specs.Lent.{front, placed}
 use Rattle.lent.specs.Put.{Put}
-use Rattle.lent.proofs.Lent.{placed_none, placed_more, placed_front, length_placed, first_put, placed_set}
+use Rattle.lent.proofs.Lent.{placed_none, placed_more, placed_front, length_placed}
 
 -- one octet more of s
 pub one_more : (d s : List ℕ) (at i : ℕ) → i < length s → at + length s ≤ length d → set (placed d at (take i s)) (at + i) (get_or s i 0) ≡ placed d at (take (i + 1) s)

@@ -1,7 +1,6 @@
 -- What holds of every cut that is made of sections as a format has them holds of each cut of an accepted file: by going along its cuts with the section 3
 -- last seen.
 use Prim.Native.Nat.{ℕ, zero, suc, ◌<◌}
-use mathlib.Core.Path.{◌≡◌}
 use mathlib.Core.List.{List, ◌∷◌}
 use native.Mathlib.Omega.{arith}
 use native.Mathlib.Nat.{not-suc-le-zero, le_of_suc-le-suc}

@@ -1,6 +1,6 @@
 -- What a section 3, 4 or 5 is held to by its own checks stands through its cut: at each later section up to the next of its number. By going back along the
 -- sections that have passed.
-use Prim.Native.Nat.{ℕ, ◌≤◌, ◌<◌}
+use Prim.Native.Nat.{ℕ, ◌≤◌}
 use mathlib.Core.Path.{◌≡◌, refl, subst}
 use mathlib.Core.List.{List}
 use mathlib.Core.Bool.{Bool, true, false, cond}

@@ -1,5 +1,5 @@
 -- The verdict on any octets by a format's own checks, to compute: FORMAT.md, "Order of checks": 1, 2, then section by section.
-use Rattle.std.specs.Prelude.{ℕ, zero, suc, ◌+◌, ◌-◌, List, [], ◌∷◌, Bool, cond, ◌&&◌, length, get_or, leb, eqb}
+use Rattle.std.specs.Prelude.{ℕ, zero, suc, ◌+◌, ◌-◌, List, [], ◌∷◌, Bool, cond, ◌&&◌, length, leb, eqb}
 use Rattle.rules.specs.Rules.{meets_all, rules0}
 use Rattle.rules.specs.Fields.{length_at}
 use Rattle.sections.specs.Checks.{Check, check, FormatChecks, checks_at}

@@ -1,6 +1,6 @@
 -- What an answer and the words after it tell: the count is the number of stretches listed, the next point is the first unlisted start,
 -- the entries' words stand at the front, and all else is as it was.
-use Prim.Native.Nat.{ℕ, ◌+◌, ◌/◌, ◌≤◌}
+use Prim.Native.Nat.{ℕ, ◌/◌, ◌≤◌}
 use mathlib.Core.Path.{◌≡◌, refl, ap, ◌∙◌}
 use mathlib.Core.List.{List, [], ◌∷◌, ◌++◌}
 use native.Mathlib.Nat.{zero-add}

@@ -1,8 +1,8 @@
 -- FORMAT.md, "Calls", Stretches: what a call lists, what it answers, and what it leaves in the lent words.
-use Rattle.std.specs.Prelude.{ℕ, ◌*◌, ◌/◌, ◌≤◌, ◌<◌, ◌≡◌, Bool, true, not, ◌&&◌, ◌||◌, List, [], ◌∷◌, ltb, eqb, length, get_or, take, drop, ℤ, pos, negsuc}
+use Rattle.std.specs.Prelude.{ℕ, ◌*◌, ◌/◌, Bool, not, ◌&&◌, ◌||◌, List, [], ◌∷◌, ltb, eqb, length, take, drop, ℤ, pos, negsuc}
 use Rattle.std.specs.Int.Signed.{lt_z}
 use Rattle.std.proofs.lemmas.List.Edits.{sets}
-use Rattle.runs.specs.Run.{levels, gives}
+use Rattle.runs.specs.Run.{levels}
 use Rattle.kinds.specs.KindTable.{kind_number}
 use Rattle.values.specs.Reading.{reading_of, kind_of}
 use Rattle.values.specs.declared.Product.{Product}

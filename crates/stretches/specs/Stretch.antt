@@ -1,5 +1,5 @@
 -- The list of stretches, as one reads it off the bins of all rays laid end to end: bin b of ray r is place r x Nb + b of the levels.
-use Rattle.std.specs.Prelude.{ℕ, zero, suc, ◌+◌, ◌-◌, ◌*◌, ◌/◌, ◌%◌, Bool, cond, not, ◌||◌, ◌&&◌, List, [], ◌∷◌, ◌++◌, get_or, leb, ltb, eqb}
+use Rattle.std.specs.Prelude.{ℕ, zero, suc, ◌+◌, ◌-◌, ◌*◌, ◌/◌, ◌%◌, Bool, cond, not, ◌||◌, List, [], ◌∷◌, ◌++◌, get_or, leb, eqb}
 
 -- "four to an entry: ray, first bin, length, kind"
 pub record Entry : Type 0 where

@@ -2,7 +2,6 @@
 use Prim.Native.Nat.{ℕ, ◌-◌, ◌≤◌, ◌<◌}
 use mathlib.Core.List.{List}
 use native.Mathlib.Omega.{arith}
-use lib.ListN.{length}
 use Rattle.runs.specs.Inner.{Holds}
 use Rattle.runs.specs.declared.RunInHand.{RunInHand}
 use Rattle.runs.proofs.Passed.{part, passed_opens, passed_given}

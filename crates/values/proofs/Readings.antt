@@ -20,7 +20,6 @@ use Rattle.values.specs.Reading.{reading_of}
 use Rattle.values.specs.Table.{sign_magnitude, octets_of, table_octets}
 use Rattle.values.proofs.Published.{table_length, table_at, published_small}
 use Rattle.values.specs.declared.Product.{Product}
-use Rattle.values.specs.declared.Reading.{Reading}
 use Rattle.values.specs.declared.Reading.TheVariants.{Missing, Number}
 
 -- level 0 never gets a number, and each level above it gets its published value

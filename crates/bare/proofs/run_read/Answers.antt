@@ -34,13 +34,13 @@ returns-in-Off c = let no = missed (gives c.args.v c.args.n c.args.octets.now) (
     record { answered = simp (le-ltb _ _ c.if-out-n.false, le-ltb _ _ c.if-n-gt2097152.false, le-ltb _ _ c.if-v-gt253.false, no.0) (ap (λ (i : ℕ). Refused (Data i)) no.1); held = refl }
 
 pub levels_upto-requires : goal.levels_upto-requires
-levels_upto-requires c = 
+levels_upto-requires c =
     let exact : gives c.args.v c.args.n c.args.octets.now ≡ true = told _ _ (sym c.in_default.is ∙ c.scan_runs-found.ensures) in
     let g = gives_true c.args.v c.args.n c.args.octets.now exact in record { v_bound = (omega arith, omega arith, g.0); a_le_b = (omega arith, omega arith) }
 
 pub returns : goal.returns
 unfolding read_answer
-returns c = 
+returns c =
     let exact : gives c.args.v c.args.n c.args.octets.now ≡ true = told _ _ (sym c.in_default.is ∙ c.scan_runs-found.ensures) in
     let yes = exact in
     let g = gives_true c.args.v c.args.n c.args.octets.now yes in

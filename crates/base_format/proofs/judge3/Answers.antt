@@ -14,7 +14,7 @@ returns-then-length_at-ne41 c = rw (ne_eqb _ 41 (λ e. c.if-length_at-ne41.true 
 
 pub returns : goal.returns
 unfolding rules3 points_at
-returns c = 
+returns c =
     let inside : c.args.at + 41 ≤ length c.args.s.now = omega (arith, c.length_at.ensures, c.requires) in
     let to = c.args.at + 41 in
     rw (

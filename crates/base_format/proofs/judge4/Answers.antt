@@ -11,14 +11,14 @@ use Rattle.base_format.specs.Fields.{site_at}
 use Rattle.base_format.proofs.judge4.Goals as goal
 
 pub returns-then-len-due : goal.returns-then-len-due
-returns-then-len-due c = 
+returns-then-len-due c =
     let len : c.wide-len.result ≡ length_at c.args.s.now c.args.at = c.wide-len.ensures ∙ c.length_at.ensures in
     let due : 60 + 4 * c.wide.result ≡ 60 + 4 * rays_at c.args.s.now c.args.x.section3 = ap (λ (n : ℕ). 60 + 4 * n) (c.wide.ensures ∙ c.rays_at.ensures) in
     rw (ne_eqb _ _ (λ e. c.if-len-due.true (len ∙ e ∙ sym due))) c.refused.ensures
 
 pub returns : goal.returns
 unfolding rules4 parameter_at site_at
-returns c = 
+returns c =
     let len : c.wide-len.result ≡ length_at c.args.s.now c.args.at = c.wide-len.ensures ∙ c.length_at.ensures in
     let due : 60 + 4 * c.wide.result ≡ 60 + 4 * rays_at c.args.s.now c.args.x.section3 = ap (λ (n : ℕ). 60 + 4 * n) (c.wide.ensures ∙ c.rays_at.ensures) in
     let inside : c.args.at + 60 ≤ length c.args.s.now = omega (arith, len, c.requires) in

@@ -7,7 +7,6 @@ use Rattle.base_format.specs.Rules.{rules5}
 use Rattle.values.proofs.Published.{count_le}
 use Rattle.rules.specs.Fields.{parameter_at}
 use native.Mathlib.Omega.{arith}
-use borrow.Author.Rules.{rules}
 use Rattle.base_format.proofs.judge5_fields.Goals as goal
 
 pub overflow_cast-m : goal.overflow_cast-m

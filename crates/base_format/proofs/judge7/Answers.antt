@@ -24,25 +24,25 @@ returns-then-len-lt6 c = let short : length_at c.args.s.now c.args.at < 6 = omeg
 
 pub overflow_cast-v : goal.overflow_cast-v
 unfolding greatest_at
-overflow_cast-v c = 
+overflow_cast-v c =
     let low : c.greatest_at-v.result ≤ 252 = omega (arith, c.greatest_at-v.ensures, c.requires.section3_bound.1) in
     let v = low in omega arith
 
 pub overflow_add-from : goal.overflow_add-from
 unfolding length_at
-overflow_add-from c = 
+overflow_add-from c =
     let ends : c.args.at + c.length_at-len.result ≤ length c.args.s.now = omega (arith, c.length_at-len.ensures, c.requires.at_in_bounds) in
     let e = ends in record { fits = omega arith }
 
 pub overflow_add-to : goal.overflow_add-to
 unfolding length_at
-overflow_add-to c = 
+overflow_add-to c =
     let ends : c.args.at + c.length_at-len.result ≤ length c.args.s.now = omega (arith, c.length_at-len.ensures, c.requires.at_in_bounds) in
     let e = ends in record { fits = omega arith }
 
 pub scan_runs-requires : goal.scan_runs-requires
 unfolding greatest_at
-scan_runs-requires c = 
+scan_runs-requires c =
     let low : c.greatest_at-v.result ≤ 252 = omega (arith, c.greatest_at-v.ensures, c.requires.section3_bound.1) in
     let v = low in
     (omega arith, omega (arith, c.points_at-bins.ensures, c.requires.section3_bound.0))
@@ -50,7 +50,7 @@ scan_runs-requires c =
 -- its place lies in the file, or is its end
 pub overflow_add-from-in-Off : goal.overflow_add-from-in-Off
 unfolding length_at greatest_at data_at
-overflow_add-from-in-Off c = 
+overflow_add-from-in-Off c =
     let long : 6 ≤ length_at c.args.s.now c.args.at = omega (arith, c.length_at-len.ensures) in
     let judged : c.scan_runs.result ≡ scanned (greatest_at c.args.s.now c.args.x.section5) (points_at c.args.s.now c.args.x.section3) (data_at c.args.s.now c.args.at) = let span : c.args.at + c.length_at-len.result - (c.args.at + 5) ≡ length_at c.args.s.now c.args.at - 5 = omega (arith, c.length_at-len.ensures) in
     c.scan_runs.ensures ∙ (λ i. scanned (c.greatest_at-v.ensures i) (c.points_at-bins.ensures i) (take (span i) (drop (c.args.at + 5) c.args.s.now))) in
@@ -64,7 +64,7 @@ overflow_add-from-in-Off c =
 
 pub returns-in-Exact : goal.returns-in-Exact
 unfolding length_at greatest_at data_at
-returns-in-Exact c = 
+returns-in-Exact c =
     let long : 6 ≤ length_at c.args.s.now c.args.at = omega (arith, c.length_at-len.ensures) in
     let judged : c.scan_runs.result ≡ scanned (greatest_at c.args.s.now c.args.x.section5) (points_at c.args.s.now c.args.x.section3) (data_at c.args.s.now c.args.at) = let span : c.args.at + c.length_at-len.result - (c.args.at + 5) ≡ length_at c.args.s.now c.args.at - 5 = omega (arith, c.length_at-len.ensures) in
     c.scan_runs.ensures ∙ (λ i. scanned (c.greatest_at-v.ensures i) (c.points_at-bins.ensures i) (take (span i) (drop (c.args.at + 5) c.args.s.now))) in
@@ -76,7 +76,7 @@ returns-in-Exact c =
 
 pub returns-in-Off : goal.returns-in-Off
 unfolding length_at greatest_at data_at
-returns-in-Off c = 
+returns-in-Off c =
     let long : 6 ≤ length_at c.args.s.now c.args.at = omega (arith, c.length_at-len.ensures) in
     let judged : c.scan_runs.result ≡ scanned (greatest_at c.args.s.now c.args.x.section5) (points_at c.args.s.now c.args.x.section3) (data_at c.args.s.now c.args.at) = let span : c.args.at + c.length_at-len.result - (c.args.at + 5) ≡ length_at c.args.s.now c.args.at - 5 = omega (arith, c.length_at-len.ensures) in
     c.scan_runs.ensures ∙ (λ i. scanned (c.greatest_at-v.ensures i) (c.points_at-bins.ensures i) (take (span i) (drop (c.args.at + 5) c.args.s.now))) in

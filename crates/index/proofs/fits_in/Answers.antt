@@ -1,7 +1,6 @@
 -- `fits_in` meets its contract: by the run at the front, and whether the bins reach far enough.
 use mathlib.Core.Path.{sym, ◌∙◌}
 use native.Mathlib.Omega.{arith}
-use borrow.Author.Tests.{not-true, not-false}
 use Rattle.index.proofs.Usable.{longer_opens, longer_usable, shorter_usable}
 use Rattle.index.proofs.fits_in.Goals as goal
 

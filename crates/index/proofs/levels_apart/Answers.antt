@@ -5,7 +5,7 @@ use mathlib.Core.List.{List}
 use native.Mathlib.Omega.{arith}
 use lib.ListN.{length, take, drop}
 use lib.Seq.{take_at}
-use borrow.Author.Tests.{leb-true, not-true, not-false}
+use borrow.Author.Tests.{leb-true}
 use Rattle.runs.specs.Run.{levels}
 use Rattle.lent.specs.Lent.{front, between}
 use Rattle.lent.proofs.Lent.{length_between}
@@ -26,8 +26,7 @@ pub levels_upto-requires : goal.levels_upto-requires
 levels_upto-requires c = record { v_bound = (omega arith, omega arith, longer_opens c.args.v c.args.nb c.args.octets.now c.args.before (sym c.longer.ensures ∙ c.if-not-longer.false)); a_le_b = (omega arith, omega arith) }
 
 pub returns-then-levels_upto : goal.returns-then-levels_upto
-returns-then-levels_upto c = 
-    
+returns-then-levels_upto c =
     let first = sym c.longer.ensures ∙ c.if-not-longer.false in
     let far = leb-true (c.args.before + c.args.nb) (length (levels c.args.v c.args.octets.now)) (sym c.levels_upto.ensures.value ∙ c.if-levels_upto.true) in record { value = sym (longer_usable c.args.v c.args.nb c.args.octets.now c.args.before first ∙ sym c.levels_upto.ensures.value ∙ c.if-levels_upto.true); out_after = c.carry.ensures ∙ ap (λ (l : List ℕ). front l c.args.out.now) (brought (levels c.args.v c.args.octets.now) _ _ c.args.before c.args.nb far (c.levels_upto.ensures.out_after c.if-levels_upto.true)) }
 

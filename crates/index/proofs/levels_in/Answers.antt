@@ -13,12 +13,15 @@ pub bounds-octets-0 : goal.bounds-octets-0
 bounds-octets-0 c = (there c.args.v c.args.nb c.args.octets.now c.args.before c.if-nb-gt0.true (sym c.longer.ensures ∙ c.if-longer.true)).0
 
 pub returns-then-longer : goal.returns-then-longer
-returns-then-longer c = 
+returns-then-longer c =
     let one = sym c.longer.ensures ∙ c.if-longer.true in
-    let all : c.args.nb - 0 ≡ c.args.nb = omega arith in record { value = sym (whole_usable c.args.v c.args.nb c.args.octets.now c.args.before c.if-nb-gt0.true one); out_after = c.stamp.ensures
+    let all : c.args.nb - 0 ≡ c.args.nb = omega arith in record {
+      value = sym (whole_usable c.args.v c.args.nb c.args.octets.now c.args.before c.if-nb-gt0.true one);
+      out_after = c.stamp.ensures
           ∙ ap (λ (n : ℕ). placed c.args.out.now 0 (replicate n (get_or c.args.octets.now 0 0))) all
           ∙ placed_front [] c.args.out.now (replicate c.args.nb (get_or c.args.octets.now 0 0))
-          ∙ ap (λ (l : List ℕ). front l c.args.out.now) (whole_levels c.args.v c.args.nb c.args.octets.now c.args.before c.if-nb-gt0.true one) }
+          ∙ ap (λ (l : List ℕ). front l c.args.out.now) (whole_levels c.args.v c.args.nb c.args.octets.now c.args.before c.if-nb-gt0.true one);
+    }
 
 pub returns : goal.returns
 returns c = record { value = c.levels_apart.ensures.value; out_after = c.levels_apart.ensures.out_after }

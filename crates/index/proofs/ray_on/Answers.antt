@@ -12,8 +12,7 @@ seek_from-hand-requires c = record {
 }
 
 pub overflow_cast-result : goal.overflow_cast-result
-overflow_cast-result c = 
-    
+overflow_cast-result c =
     let inside = here_inside c.args.p.v c.args.part.now _ _ (stands_holding c.args.p.v c.args.part.now c.args.p.bin c.seek_from-hand.result c.seek_from-hand.ensures).0 (omega (arith, c.seek_from-hand.ensures.before, c.requires.1)) in
     record { fits = omega (arith, inside, c.requires.0.short) }
 
@@ -27,8 +26,7 @@ pub overflow_add-result : goal.overflow_add-result
 overflow_add-result c = record { fits = omega (arith, c.requires.1, c.requires.0.few, c.requires.0.ray) }
 
 pub returns : goal.returns
-returns c = 
-    
+returns c =
     let t = stands_holding c.args.p.v c.args.part.now c.args.p.bin c.seek_from-hand.result c.seek_from-hand.ensures in
     record {
       along = record { low = c.requires.0.low; few = c.requires.0.few; short = c.requires.0.short; ray = c.requires.0.ray; before = omega (arith, c.seek_from-hand.ensures.before); run = c.seek_from-hand.ensures.is };

@@ -16,21 +16,21 @@ pub run_upto-requires : goal.run_upto-requires
 run_upto-requires c = (c.requires.0, omega (arith, c.requires.1))
 
 pub overflow_add-bins : goal.overflow_add-bins
-overflow_add-bins c = 
+overflow_add-bins c =
     let past : (c.loop-len.bins < c.args.want) × (0 < c.in-Run.len) × Upto c.args.v c.args.octets.now c.args.want c.in-Run.next (c.loop-len.bins + c.in-Run.len) = let t = cut_told c.args.v (c.args.want - c.loop-len.bins) c.args.octets.now c.loop-len.at _ _ _ (sym c.in-Run.is ∙ c.run_upto.ensures) in
     let n = upto_next c.args.v c.args.octets.now c.args.want c.loop-len.at c.loop-len.bins c.loop-len.invariant _ _ _ t in
     (omega (arith, t.wanted), n.0, n.1) in
     record { fits = omega (arith, (past).2.few, c.requires.1) }
 
 pub loop-len-smaller : goal.loop-len-smaller
-loop-len-smaller c = 
+loop-len-smaller c =
     let past : (c.loop-len.bins < c.args.want) × (0 < c.in-Run.len) × Upto c.args.v c.args.octets.now c.args.want c.in-Run.next (c.loop-len.bins + c.in-Run.len) = let t = cut_told c.args.v (c.args.want - c.loop-len.bins) c.args.octets.now c.loop-len.at _ _ _ (sym c.in-Run.is ∙ c.run_upto.ensures) in
     let n = upto_next c.args.v c.args.octets.now c.args.want c.loop-len.at c.loop-len.bins c.loop-len.invariant _ _ _ t in
     (omega (arith, t.wanted), n.0, n.1) in
     omega (arith, (past).0, (past).1)
 
 pub loop-len-preserved : goal.loop-len-preserved
-loop-len-preserved c = 
+loop-len-preserved c =
     let past : (c.loop-len.bins < c.args.want) × (0 < c.in-Run.len) × Upto c.args.v c.args.octets.now c.args.want c.in-Run.next (c.loop-len.bins + c.in-Run.len) = let t = cut_told c.args.v (c.args.want - c.loop-len.bins) c.args.octets.now c.loop-len.at _ _ _ (sym c.in-Run.is ∙ c.run_upto.ensures) in
     let n = upto_next c.args.v c.args.octets.now c.args.want c.loop-len.at c.loop-len.bins c.loop-len.invariant _ _ _ t in
     (omega (arith, t.wanted), n.0, n.1) in

@@ -6,12 +6,9 @@ use Rattle.lent.proofs.Numbers.{halves}
 use Rattle.lent.proofs.put_be32.Goals as goal
 
 pub put_be16-requires : goal.put_be16-requires
-put_be16-requires c = 
-    
+put_be16-requires c =
     omega (arith, c.put_be16-low.ensures.past, written_length 2 (c.args.n / 65536))
 
 pub returns : goal.returns
-returns c = 
-    
-    
+returns c =
     halves 2 2 c.args.n (c.args.n / 65536) (c.args.n % 65536) (omega arith) (omega arith) c.put_be16-low.ensures c.put_be16.ensures

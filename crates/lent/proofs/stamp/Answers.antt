@@ -15,7 +15,7 @@ pub loop-i-init : goal.loop-i-init
 loop-i-init c = (omega arith, omega arith, row_one c.args.out.now c.args.lo c.args.octet (omega arith))
 
 pub bounds-out-i : goal.bounds-out-i
-bounds-out-i c = 
+bounds-out-i c =
     let size : length c.loop-i.out ≡ length c.args.out.now = let d = set c.args.out.now c.args.lo c.args.octet in
     let same = length-set c.args.out.now c.args.lo c.args.octet in
     ap length c.loop-i.invariant.2 ∙ row_length d c.args.lo c.loop-i.i c.args.octet (omega arith) (omega (arith, same)) ∙ same in
@@ -25,7 +25,7 @@ pub loop-i-preserved : goal.loop-i-preserved
 loop-i-preserved c = (omega arith, omega arith, ap (λ (d : List ℕ). set d c.loop-i.i c.args.octet) c.loop-i.invariant.2 ∙ row_more (set c.args.out.now c.args.lo c.args.octet) c.args.lo c.loop-i.i c.args.octet (omega arith) (omega (arith, length-set c.args.out.now c.args.lo c.args.octet)))
 
 pub shape_of-out : goal.shape_of-out
-shape_of-out c = 
+shape_of-out c =
     let size : length c.loop-i.out ≡ length c.args.out.now = let d = set c.args.out.now c.args.lo c.args.octet in
     let same = length-set c.args.out.now c.args.lo c.args.octet in
     ap length c.loop-i.invariant.2 ∙ row_length d c.args.lo c.loop-i.i c.args.octet (omega arith) (omega (arith, same)) ∙ same in

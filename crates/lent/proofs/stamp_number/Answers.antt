@@ -20,7 +20,7 @@ pub offset_bounds-values-i : goal.offset_bounds-values-i
 offset_bounds-values-i c = scaled_Fits _ (length c.args.values.now) 4 (omega (arith, c.loop-i-test.true, c.requires.1)) c.well_formed.0.1
 
 pub bounds-values-i : goal.bounds-values-i
-bounds-values-i c = 
+bounds-values-i c =
     let size : length c.loop-i.values ≡ length c.args.values.now = ap length c.loop-i.invariant.2 ∙ row_length c.args.values.now c.args.lo c.loop-i.i (to_z w32 (of_z w32 c.args.z)) c.loop-i.invariant.0 (omega (arith, c.loop-i.invariant.1, c.requires.1)) in
     omega (arith, size, c.loop-i-test.true, c.requires.1)
 
@@ -29,13 +29,13 @@ loop-i-smaller c = omega (arith, c.loop-i-test.true)
 
 pub loop-i-preserved : goal.loop-i-preserved
 loop-i-preserved c = let z = to_z w32 (of_z w32 c.args.z) in (
-      omega (arith, c.loop-i.invariant.0),
-      omega (arith, c.loop-i-test.true),
-      ap (λ (d : List ℤ). set d c.loop-i.i z) c.loop-i.invariant.2 ∙ row_more c.args.values.now c.args.lo c.loop-i.i z c.loop-i.invariant.0 (omega (arith, c.loop-i-test.true, c.requires.1)),
-    )
+  omega (arith, c.loop-i.invariant.0),
+  omega (arith, c.loop-i-test.true),
+  ap (λ (d : List ℤ). set d c.loop-i.i z) c.loop-i.invariant.2 ∙ row_more c.args.values.now c.args.lo c.loop-i.i z c.loop-i.invariant.0 (omega (arith, c.loop-i-test.true, c.requires.1)),
+)
 
 pub shape_of-values : goal.shape_of-values
-shape_of-values c = 
+shape_of-values c =
     let size : length c.loop-i.values ≡ length c.args.values.now = ap length c.loop-i.invariant.2 ∙ row_length c.args.values.now c.args.lo c.loop-i.i (to_z w32 (of_z w32 c.args.z)) c.loop-i.invariant.0 (omega (arith, c.loop-i.invariant.1, c.requires.1)) in
     size
 

@@ -1,5 +1,4 @@
 -- `greatest_of` meets its contract: the greatest so far and that of the levels to come make the greatest of all.
-use Prim.Native.Nat.{◌-◌}
 use native.Mathlib.Omega.{arith}
 use Rattle.packing.proofs.Digits.{greatest_at_lem, greatest_end}
 use Rattle.packing.proofs.greatest_of.Goals as goal

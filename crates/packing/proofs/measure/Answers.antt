@@ -24,10 +24,10 @@ overflow_add-total-else-y-x c = record { fits = omega (arith, c.digit_count.ensu
 
 pub loop-i-preserved : goal.loop-i-preserved
 loop-i-preserved c = let y = get_or c.args.levels.now c.loop-i.i 0 in (
-      omega arith,
-      omega (arith, c.digit_count.ensures, digits_short (255 - c.args.v) c.loop-i.k),
-      omega (arith, c.loop-i.invariant.2, c.digit_count.ensures, digits_short (255 - c.args.v) c.loop-i.k, ap length (on_other c.args.v c.loop-i.x c.loop-i.k c.args.levels.now c.loop-i.i (omega arith) c.if-y-x.false), length-append (code c.args.v c.loop-i.x c.loop-i.k) (on_from c.args.v y 0 (drop (c.loop-i.i + 1) c.args.levels.now)), code_length c.args.v c.loop-i.x c.loop-i.k),
-    )
+  omega arith,
+  omega (arith, c.digit_count.ensures, digits_short (255 - c.args.v) c.loop-i.k),
+  omega (arith, c.loop-i.invariant.2, c.digit_count.ensures, digits_short (255 - c.args.v) c.loop-i.k, ap length (on_other c.args.v c.loop-i.x c.loop-i.k c.args.levels.now c.loop-i.i (omega arith) c.if-y-x.false), length-append (code c.args.v c.loop-i.x c.loop-i.k) (on_from c.args.v y 0 (drop (c.loop-i.i + 1) c.args.levels.now)), code_length c.args.v c.loop-i.x c.loop-i.k),
+)
 
 pub overflow_add-result-2 : goal.overflow_add-result-2
 overflow_add-result-2 c = record { fits = omega (arith, c.digit_count-2.ensures, digits_short (255 - c.args.v) c.loop-i.k) }

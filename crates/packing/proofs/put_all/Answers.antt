@@ -1,5 +1,5 @@
 -- `put_all` meets its contract: what stands in front, and what is left to write.
-use Prim.Native.Nat.{ℕ, ◌+◌, ◌-◌}
+use Prim.Native.Nat.{ℕ, ◌+◌}
 use mathlib.Core.Path.{◌≡◌, refl, sym, ap, ◌∙◌}
 use mathlib.Core.List.{List, ◌++◌, [], append-nil}
 use native.Mathlib.Omega.{arith}
@@ -21,7 +21,7 @@ pub loop-i-preserved-then-y-x : goal.loop-i-preserved-then-y-x
 loop-i-preserved-then-y-x c = (omega arith, omega arith, c.loop-i.invariant.2, c.loop-i.invariant.3 ∙ on_same c.args.v c.loop-i.x c.loop-i.k c.args.levels.now c.loop-i.i (omega arith) c.if-y-x.true, c.loop-i.invariant.4)
 
 pub put_run-at-requires : goal.put_run-at-requires
-put_run-at-requires c = 
+put_run-at-requires c =
     let size : length c.loop-i.out ≡ length c.args.out.now = ap length c.loop-i.invariant.4 ∙ length_fronted (written c.args.v c.args.levels.now) c.args.out.now c.loop-i.at c.loop-i.invariant.2 c.requires.2 in
     let next = c.loop-i.invariant.3 ∙ on_other c.args.v c.loop-i.x c.loop-i.k c.args.levels.now c.loop-i.i (omega arith) c.if-y-x.false in
     (omega arith, omega arith, omega (arith, size, next_fits (written c.args.v c.args.levels.now) c.loop-i.at (code c.args.v c.loop-i.x c.loop-i.k) _ next c.loop-i.invariant.2))
@@ -38,18 +38,18 @@ loop-i-preserved c = let W = written c.args.v c.args.levels.now in
     )
 
 pub put_run-requires : goal.put_run-requires
-put_run-requires c = 
+put_run-requires c =
     let size : length c.loop-i.out ≡ length c.args.out.now = ap length c.loop-i.invariant.4 ∙ length_fronted (written c.args.v c.args.levels.now) c.args.out.now c.loop-i.at c.loop-i.invariant.2 c.requires.2 in
     let last : drop c.loop-i.at (written c.args.v c.args.levels.now) ≡ code c.args.v c.loop-i.x c.loop-i.k ++ [] = c.loop-i.invariant.3 ∙ on_end c.args.v c.loop-i.x c.loop-i.k c.args.levels.now c.loop-i.i (omega arith) ∙ sym (append-nil (code c.args.v c.loop-i.x c.loop-i.k)) in
     (omega arith, omega arith, omega (arith, size, next_fits (written c.args.v c.args.levels.now) c.loop-i.at (code c.args.v c.loop-i.x c.loop-i.k) [] last c.loop-i.invariant.2))
 
 pub shape_of-out : goal.shape_of-out
-shape_of-out c = 
+shape_of-out c =
     let size : length c.loop-i.out ≡ length c.args.out.now = ap length c.loop-i.invariant.4 ∙ length_fronted (written c.args.v c.args.levels.now) c.args.out.now c.loop-i.at c.loop-i.invariant.2 c.requires.2 in
     c.put_run.auto.out ∙ size
 
 pub returns : goal.returns
-returns c = 
+returns c =
     let last : drop c.loop-i.at (written c.args.v c.args.levels.now) ≡ code c.args.v c.loop-i.x c.loop-i.k ++ [] = c.loop-i.invariant.3 ∙ on_end c.args.v c.loop-i.x c.loop-i.k c.args.levels.now c.loop-i.i (omega arith) ∙ sym (append-nil (code c.args.v c.loop-i.x c.loop-i.k)) in
     let W = written c.args.v c.args.levels.now in
     let p = code c.args.v c.loop-i.x c.loop-i.k in

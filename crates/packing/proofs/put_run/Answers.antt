@@ -32,7 +32,7 @@ pub overflow_add-out-in-loop-m : goal.overflow_add-out-in-loop-m
 overflow_add-out-in-loop-m c = record { fits = omega (arith, mod-lt c.loop-m.m {m = 255 - c.args.v} (omega arith)) }
 
 pub bounds-out-j : goal.bounds-out-j
-bounds-out-j c = 
+bounds-out-j c =
     let size : length c.loop-m.out ≡ length c.args.out.now = let W = code c.args.v c.args.x c.args.k in
     ap length c.loop-m.invariant.2
     ∙ length_placed (set c.args.out.now c.args.at c.args.x) c.args.at (take (c.loop-m.j - c.args.at) W) (omega (arith, length-take-le (c.loop-m.j - c.args.at) W (omega arith), length-set c.args.out.now c.args.at c.args.x, c.requires.2))
@@ -41,7 +41,7 @@ bounds-out-j c =
     omega (arith, size, one_fits (set c.args.out.now c.args.at c.args.x) (code c.args.v c.args.x c.args.k) c.args.at c.loop-m.j _ _ (omega arith) next (omega arith) (omega (arith, length-set c.args.out.now c.args.at c.args.x)))
 
 pub overflow_add-j-in-loop-m : goal.overflow_add-j-in-loop-m
-overflow_add-j-in-loop-m c = 
+overflow_add-j-in-loop-m c =
     let size : length c.loop-m.out ≡ length c.args.out.now = let W = code c.args.v c.args.x c.args.k in
     ap length c.loop-m.invariant.2
     ∙ length_placed (set c.args.out.now c.args.at c.args.x) c.args.at (take (c.loop-m.j - c.args.at) W) (omega (arith, length-take-le (c.loop-m.j - c.args.at) W (omega arith), length-set c.args.out.now c.args.at c.args.x, c.requires.2))
@@ -53,9 +53,8 @@ pub loop-m-smaller : goal.loop-m-smaller
 loop-m-smaller c = div-lt_self {n = c.loop-m.m} {k = 255 - c.args.v} (omega arith) (omega arith)
 
 pub loop-m-preserved : goal.loop-m-preserved
-loop-m-preserved c = 
-    let next : drop (c.loop-m.j - c.args.at) (code c.args.v c.args.x c.args.k) ≡ (c.args.v + 1 + c.loop-m.m % (255 - c.args.v)) ∷ octets_of c.args.v (digits_of (255 - c.args.v) (c.loop-m.m / (255 - c.args.v))) = c.loop-m.invariant.3 ∙ octets_more c.args.v c.loop-m.m (omega arith) (omega arith) in
-    (
+loop-m-preserved c =
+    let next : drop (c.loop-m.j - c.args.at) (code c.args.v c.args.x c.args.k) ≡ (c.args.v + 1 + c.loop-m.m % (255 - c.args.v)) ∷ octets_of c.args.v (digits_of (255 - c.args.v) (c.loop-m.m / (255 - c.args.v))) = c.loop-m.invariant.3 ∙ octets_more c.args.v c.loop-m.m (omega arith) (omega arith) in (
       omega arith,
       one_fits (set c.args.out.now c.args.at c.args.x) (code c.args.v c.args.x c.args.k) c.args.at c.loop-m.j _ _ (omega arith) next (omega arith) (omega (arith, length-set c.args.out.now c.args.at c.args.x)),
       ap (λ (d : List ℕ). set d c.loop-m.j (c.args.v + 1 + c.loop-m.m % (255 - c.args.v))) c.loop-m.invariant.2 ∙ one_put (set c.args.out.now c.args.at c.args.x) (code c.args.v c.args.x c.args.k) c.args.at c.loop-m.j _ _ (omega arith) next (omega arith) (omega (arith, length-set c.args.out.now c.args.at c.args.x)),
@@ -63,7 +62,7 @@ loop-m-preserved c =
     )
 
 pub shape_of-out : goal.shape_of-out
-shape_of-out c = 
+shape_of-out c =
     let size : length c.loop-m.out ≡ length c.args.out.now = let W = code c.args.v c.args.x c.args.k in
     ap length c.loop-m.invariant.2
     ∙ length_placed (set c.args.out.now c.args.at c.args.x) c.args.at (take (c.loop-m.j - c.args.at) W) (omega (arith, length-take-le (c.loop-m.j - c.args.at) W (omega arith), length-set c.args.out.now c.args.at c.args.x, c.requires.2))
@@ -73,6 +72,9 @@ shape_of-out c =
 pub returns : goal.returns
 returns c = let W = code c.args.v c.args.x c.args.k in
     let none = c.loop-m.invariant.3 ∙ ap (λ (m : ℕ). octets_of c.args.v (digits_of (255 - c.args.v) m)) c.loop-m-test.false ∙ octets_none c.args.v in
-    let all = simp length-drop at (ap length none) in record { value = omega arith; out_after = c.loop-m.invariant.2
+    let all = simp length-drop at (ap length none) in record {
+      value = omega arith;
+      out_after = c.loop-m.invariant.2
           ∙ ap (λ (p : List ℕ). placed (set c.args.out.now c.args.at c.args.x) c.args.at p) (take_all (c.loop-m.j - c.args.at) W (omega arith))
-          ∙ placed_set c.args.out.now c.args.at c.args.x W (omega (arith, code_length c.args.v c.args.x c.args.k)) }
+          ∙ placed_set c.args.out.now c.args.at c.args.x W (omega (arith, code_length c.args.v c.args.x c.args.k));
+    }

@@ -37,7 +37,7 @@ loop-i-preserved-then-weight-le2097152 c = let small : c.loop-i.weight ≤ 20971
     (omega arith, omega (arith, mul-le-mul {n₁ = c.loop-i.weight} {m₁ = 255 - c.args.v} {n₂ = 2097152} {m₂ = 255} (omega arith) (omega arith)), (simp (le-leb _ _ small) at (still_more c.loop-i.invariant.2 (omega arith) (c.requires.1 (omega arith)).1 (omega arith) (omega arith))))
 
 pub loop-i-preserved : goal.loop-i-preserved
-loop-i-preserved c = 
+loop-i-preserved c =
     let large : 2097152 < c.loop-i.weight = omega arith in
     (omega arith, omega arith, (simp (lt-leb _ _ large) at (still_more c.loop-i.invariant.2 (omega arith) (c.requires.1 (omega arith)).1 (omega arith) (omega arith))))
 

@@ -21,32 +21,31 @@ pub run_upto-requires : goal.run_upto-requires
 run_upto-requires c = (c.requires.v_bound.0, omega (arith, c.requires.v_bound.1))
 
 pub overflow_add-to : goal.overflow_add-to
-overflow_add-to c = 
+overflow_add-to c =
     let run : CutOff c.args.v c.args.octets.now c.loop-level.at (c.args.b - c.loop-level.bins) c.in-Run.level c.in-Run.len c.in-Run.next = cut_told c.args.v _ c.args.octets.now c.loop-level.at _ _ _ (sym c.in-Run.is ∙ c.run_upto.ensures) in
     let past : (0 < c.in-Run.len) × Upto c.args.v c.args.octets.now c.args.b c.in-Run.next (c.loop-level.bins + c.in-Run.len) = upto_next c.args.v c.args.octets.now c.args.b c.loop-level.at c.loop-level.bins c.loop-level.invariant.0 _ _ _ (run) in
     record { fits = omega (arith, (past).1.few, c.requires.v_bound.1) }
 
 pub stamp-requires : goal.stamp-requires
-stamp-requires c = 
+stamp-requires c =
     let size : length c.loop-level.out ≡ length c.args.out.now = ap length c.loop-level.invariant.1 ∙ length_front (between c.args.a c.loop-level.bins ((levels c.args.v c.args.octets.now))) c.args.out.now (omega (arith, length_between ((levels c.args.v c.args.octets.now)) c.args.a c.loop-level.bins c.loop-level.invariant.0.within, c.loop-level.invariant.0.few, c.requires.a_le_b.1)) in
     let run : CutOff c.args.v c.args.octets.now c.loop-level.at (c.args.b - c.loop-level.bins) c.in-Run.level c.in-Run.len c.in-Run.next = cut_told c.args.v _ c.args.octets.now c.loop-level.at _ _ _ (sym c.in-Run.is ∙ c.run_upto.ensures) in
     let past : (0 < c.in-Run.len) × Upto c.args.v c.args.octets.now c.args.b c.in-Run.next (c.loop-level.bins + c.in-Run.len) = upto_next c.args.v c.args.octets.now c.args.b c.loop-level.at c.loop-level.bins c.loop-level.invariant.0 _ _ _ (run) in
     let p = past in (omega (arith, c.excess.ensures, c.excess-in-Run.ensures, p.0), omega (arith, c.excess-in-Run.ensures, p.1.few, size, c.requires.a_le_b.1))
 
 pub loop-level-smaller : goal.loop-level-smaller
-loop-level-smaller c = 
+loop-level-smaller c =
     let run : CutOff c.args.v c.args.octets.now c.loop-level.at (c.args.b - c.loop-level.bins) c.in-Run.level c.in-Run.len c.in-Run.next = cut_told c.args.v _ c.args.octets.now c.loop-level.at _ _ _ (sym c.in-Run.is ∙ c.run_upto.ensures) in
     let past : (0 < c.in-Run.len) × Upto c.args.v c.args.octets.now c.args.b c.in-Run.next (c.loop-level.bins + c.in-Run.len) = upto_next c.args.v c.args.octets.now c.args.b c.loop-level.at c.loop-level.bins c.loop-level.invariant.0 _ _ _ (run) in
     omega (arith, (past).0, (run).wanted)
 
 pub loop-level-preserved : goal.loop-level-preserved
-loop-level-preserved c = 
+loop-level-preserved c =
     let run : CutOff c.args.v c.args.octets.now c.loop-level.at (c.args.b - c.loop-level.bins) c.in-Run.level c.in-Run.len c.in-Run.next = cut_told c.args.v _ c.args.octets.now c.loop-level.at _ _ _ (sym c.in-Run.is ∙ c.run_upto.ensures) in
     let past : (0 < c.in-Run.len) × Upto c.args.v c.args.octets.now c.args.b c.in-Run.next (c.loop-level.bins + c.in-Run.len) = upto_next c.args.v c.args.octets.now c.args.b c.loop-level.at c.loop-level.bins c.loop-level.invariant.0 _ _ _ (run) in
     let p = past in
     let r = run in
-    let len = run_len c.args.v c.args.octets.now c.loop-level.at in
-    (
+    let len = run_len c.args.v c.args.octets.now c.loop-level.at in (
       p.1,
       c.stamp.ensures
           ∙ (λ i. placed (c.loop-level.invariant.1 i) (c.excess.ensures i) (replicate (c.excess-in-Run.ensures i - c.excess.ensures i) (r.is i)))
@@ -54,7 +53,7 @@ loop-level-preserved c =
     )
 
 pub shape_of-out-in-End : goal.shape_of-out-in-End
-shape_of-out-in-End c = 
+shape_of-out-in-End c =
     let size : length c.loop-level.out ≡ length c.args.out.now = ap length c.loop-level.invariant.1 ∙ length_front (between c.args.a c.loop-level.bins ((levels c.args.v c.args.octets.now))) c.args.out.now (omega (arith, length_between ((levels c.args.v c.args.octets.now)) c.args.a c.loop-level.bins c.loop-level.invariant.0.within, c.loop-level.invariant.0.few, c.requires.a_le_b.1)) in
     size
 

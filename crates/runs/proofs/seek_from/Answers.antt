@@ -1,5 +1,5 @@
 -- `seek_from` meets its contract: the run in hand does not begin after bin a, and in the end it holds it.
-use Prim.Native.Nat.{ℕ, ◌≤◌, ◌<◌, ◌+◌, ◌-◌}
+use Prim.Native.Nat.{ℕ, ◌≤◌, ◌<◌, ◌+◌}
 use mathlib.Core.Path.{◌≡◌, sym, ap, ◌∙◌}
 use native.Mathlib.Omega.{arith}
 use Rattle.runs.specs.Run.{run_len}
@@ -14,7 +14,7 @@ pub known_run-requires : goal.known_run-requires
 known_run-requires c = (c.requires.v_bound.0, λ some. here_known c.args.v c.args.octets.now c.loop-len.next c.loop-len.end c.loop-len.invariant.1.past (omega (arith, some, c.excess.ensures, c.requires.v_bound.2)) c.requires.v_bound.1)
 
 pub overflow_add-end : goal.overflow_add-end
-overflow_add-end c = 
+overflow_add-end c =
     let run : (c.loop-len.end ≤ c.args.a) × (0 < c.in-Run.len) × Stands c.args.v c.args.octets.now c.in-Run.past (c.loop-len.end + c.in-Run.len) × (c.in-Run.len ≡ run_len c.args.v c.args.octets.now c.loop-len.next) = let t = known_told c.args.v _ c.args.octets.now c.loop-len.next _ _ _ (sym c.in-Run.is ∙ c.known_run.ensures) in
     let on : c.loop-len.end ≤ c.args.a = omega (arith, t.0, c.excess.ensures) in
     let n = here_next c.args.v c.args.octets.now c.loop-len.next c.loop-len.end c.loop-len.invariant.1.past (omega (arith, c.requires.v_bound.2)) c.in-Run.len c.in-Run.past t.2 t.3 in
@@ -22,7 +22,7 @@ overflow_add-end c =
     record { fits = omega (arith, (run).2.within, c.requires.v_bound.1) }
 
 pub loop-len-smaller : goal.loop-len-smaller
-loop-len-smaller c = 
+loop-len-smaller c =
     let run : (c.loop-len.end ≤ c.args.a) × (0 < c.in-Run.len) × Stands c.args.v c.args.octets.now c.in-Run.past (c.loop-len.end + c.in-Run.len) × (c.in-Run.len ≡ run_len c.args.v c.args.octets.now c.loop-len.next) = let t = known_told c.args.v _ c.args.octets.now c.loop-len.next _ _ _ (sym c.in-Run.is ∙ c.known_run.ensures) in
     let on : c.loop-len.end ≤ c.args.a = omega (arith, t.0, c.excess.ensures) in
     let n = here_next c.args.v c.args.octets.now c.loop-len.next c.loop-len.end c.loop-len.invariant.1.past (omega (arith, c.requires.v_bound.2)) c.in-Run.len c.in-Run.past t.2 t.3 in
@@ -30,7 +30,7 @@ loop-len-smaller c =
     omega (arith, (run).0, (run).1)
 
 pub loop-len-preserved : goal.loop-len-preserved
-loop-len-preserved c = 
+loop-len-preserved c =
     let run : (c.loop-len.end ≤ c.args.a) × (0 < c.in-Run.len) × Stands c.args.v c.args.octets.now c.in-Run.past (c.loop-len.end + c.in-Run.len) × (c.in-Run.len ≡ run_len c.args.v c.args.octets.now c.loop-len.next) = let t = known_told c.args.v _ c.args.octets.now c.loop-len.next _ _ _ (sym c.in-Run.is ∙ c.known_run.ensures) in
     let on : c.loop-len.end ≤ c.args.a = omega (arith, t.0, c.excess.ensures) in
     let n = here_next c.args.v c.args.octets.now c.loop-len.next c.loop-len.end c.loop-len.invariant.1.past (omega (arith, c.requires.v_bound.2)) c.in-Run.len c.in-Run.past t.2 t.3 in

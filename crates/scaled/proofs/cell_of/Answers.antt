@@ -15,5 +15,8 @@ returns-then-z-all_ones c = record { exact = simp (eq-eqb _ _ (c.if-z-all_ones.t
 
 pub returns : goal.returns
 unfolding cell_of
-returns c = let other : c.args.z ≡ 2 ^ c.args.width - 1 → ⊥ = λ e. c.if-z-all_ones.false (e ∙ sym c.all_ones.ensures) in record { exact = simp (ne_eqb _ _ other) (ap Value c.unpack.ensures); near = subst (λ (y : Float). Right y c.args.bits c.args.z c.args.e c.args.d) (sym c.unpack.ensures)
-          (scaled_right c.args.bits c.args.z c.args.e c.args.d c.requires.reference (search rules) c.requires.binary_scale c.requires.decimal_scale) }
+returns c = let other : c.args.z ≡ 2 ^ c.args.width - 1 → ⊥ = λ e. c.if-z-all_ones.false (e ∙ sym c.all_ones.ensures) in record {
+  exact = simp (ne_eqb _ _ other) (ap Value c.unpack.ensures);
+  near = subst (λ (y : Float). Right y c.args.bits c.args.z c.args.e c.args.d) (sym c.unpack.ensures)
+      (scaled_right c.args.bits c.args.z c.args.e c.args.d c.requires.reference (search rules) c.requires.binary_scale c.requires.decimal_scale);
+}

@@ -22,7 +22,7 @@ pub loop-at-init : goal.loop-at-init
 loop-at-init c = (search rules, omega arith, omega arith, moved_none _)
 
 pub count_front-front-requires : goal.count_front-front-requires
-count_front-front-requires c = 
+count_front-front-requires c =
     (c.requires.0, omega (arith, ap length (to_end c.args.octets.now c.loop-at.at), length-drop c.loop-at.at c.args.octets.now), c.loop-at.invariant.0)
 
 pub returns-then-front-eq0 : goal.returns-then-front-eq0
@@ -32,14 +32,14 @@ pub returns-then-left-front : goal.returns-then-left-front
 returns-then-left-front c = (c.loop-at.invariant.1, c.loop-at.invariant.2, c.loop-at.invariant.3)
 
 pub overflow_add-at : goal.overflow_add-at
-overflow_add-at c = 
+overflow_add-at c =
     omega (arith, told c.args.v c.args.octets.now c.loop-at.at c.count_front-front.result.octets c.count_front-front.result.bins c.count_front-front.ensures (omega arith), length-drop c.loop-at.at c.args.octets.now)
 
 pub loop-at-smaller : goal.loop-at-smaller
 loop-at-smaller c = omega arith
 
 pub loop-at-preserved : goal.loop-at-preserved
-loop-at-preserved c = 
+loop-at-preserved c =
     let f = told c.args.v c.args.octets.now c.loop-at.at c.count_front-front.result.octets c.count_front-front.result.bins c.count_front-front.ensures (omega arith) in (
       omega arith,
       omega (arith, f, length-drop c.loop-at.at c.args.octets.now),

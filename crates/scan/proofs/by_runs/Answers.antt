@@ -29,12 +29,12 @@ pub runs-preserved : goal.runs-preserved
 runs-preserved c = (omega arith, omega arith, c.digits.invariant.4, digits_level c.args.v c.digits.left c.digits.weight c.args.octets.now c.digits.i c.digits.o _ c.digits.invariant.0 c.digits.invariant.4 (omega arith) c.digits.invariant.5)
 
 pub overflow_cast-more : goal.overflow_cast-more
-overflow_cast-more c = 
+overflow_cast-more c =
     let octet : c.digits.o ≤ 255 = omega (arith, c.digits.invariant.4, c.type_inv.octets c.digits.i) in
     omega (arith, octet)
 
 pub overflow_mul-more : goal.overflow_mul-more
-overflow_mul-more c = 
+overflow_mul-more c =
     let octet : c.digits.o ≤ 255 = omega (arith, c.digits.invariant.4, c.type_inv.octets c.digits.i) in
     record { fits = omega (arith, product (2097152 * 255) (c.digits.o - c.args.v - 1) c.digits.weight (omega (arith, octet)) (omega arith)) }
 
@@ -54,7 +54,7 @@ returns-then-i-octets c =
     let whole = scanned c.args.v c.args.n c.args.octets.now in
     -- where the ways out meet: an octet fails, or all octets were read
     let out : ((whole ≡ Off c.runs-test.i) × (c.runs-test.i < length c.args.octets.now)) ⊎ ((length c.args.octets.now ≤ c.runs-test.i) × (whole ≡ verdict 0 c.runs-test.left c.runs-test.i)) = elim c.runs-test.branch [
-      else-runs-test w ↦ inl (above_fails c.args.v c.runs.left c.args.octets.now c.runs.i c.runs.o _ c.runs.invariant.0 c.runs.invariant.2 w.runs-test.false c.runs.invariant.3 ∙ ap (λ (k : ℕ). Off k) (sym w.i-is), omega (arith, w.i-is))
+      | else-runs-test w ↦ inl (above_fails c.args.v c.runs.left c.args.octets.now c.runs.i c.runs.o _ c.runs.invariant.0 c.runs.invariant.2 w.runs-test.false c.runs.invariant.3 ∙ ap (λ (k : ℕ). Off k) (sym w.i-is), omega (arith, w.i-is))
       | then-runs-test+then-left-lt1 w ↦ inl (full_fails c.args.v c.runs.left c.args.octets.now c.runs.i c.runs.o _ c.runs.invariant.0 c.runs.invariant.2 w.runs-test.true w.if-left-lt1.true c.runs.invariant.3 ∙ ap (λ (k : ℕ). Off k) (sym w.i-is), omega (arith, w.i-is))
       | then-runs-test+else-left-lt1+then-octets-i w ↦ inr (omega (arith, w.if-octets-i.true, w.i-is), level_last c.args.v c.runs.left c.args.octets.now c.runs.i c.runs.o _ c.runs.invariant.0 c.runs.invariant.2 w.runs-test.true (omega (arith, w.if-left-lt1.false)) w.if-octets-i.true c.runs.invariant.3 ∙ (λ k. verdict 0 (sym w.left-is k) (sym w.i-is k)))
       | then-runs-test+else-left-lt1+else-octets-i+then-digits-test+then-left-more w ↦ inl (past_fails c.args.v w.digits.left w.digits.weight c.args.octets.now w.digits.i w.digits.o _ w.digits.invariant.0 w.digits.invariant.4 w.digits-test.true w.if-left-more.true w.digits.invariant.5 ∙ ap (λ (k : ℕ). Off k) (sym w.i-is), omega (arith, w.i-is))
@@ -67,7 +67,7 @@ returns-then-left-eq0 c =
     let whole = scanned c.args.v c.args.n c.args.octets.now in
     -- where the ways out meet: an octet fails, or all octets were read
     let out : ((whole ≡ Off c.runs-test.i) × (c.runs-test.i < length c.args.octets.now)) ⊎ ((length c.args.octets.now ≤ c.runs-test.i) × (whole ≡ verdict 0 c.runs-test.left c.runs-test.i)) = elim c.runs-test.branch [
-      else-runs-test w ↦ inl (above_fails c.args.v c.runs.left c.args.octets.now c.runs.i c.runs.o _ c.runs.invariant.0 c.runs.invariant.2 w.runs-test.false c.runs.invariant.3 ∙ ap (λ (k : ℕ). Off k) (sym w.i-is), omega (arith, w.i-is))
+      | else-runs-test w ↦ inl (above_fails c.args.v c.runs.left c.args.octets.now c.runs.i c.runs.o _ c.runs.invariant.0 c.runs.invariant.2 w.runs-test.false c.runs.invariant.3 ∙ ap (λ (k : ℕ). Off k) (sym w.i-is), omega (arith, w.i-is))
       | then-runs-test+then-left-lt1 w ↦ inl (full_fails c.args.v c.runs.left c.args.octets.now c.runs.i c.runs.o _ c.runs.invariant.0 c.runs.invariant.2 w.runs-test.true w.if-left-lt1.true c.runs.invariant.3 ∙ ap (λ (k : ℕ). Off k) (sym w.i-is), omega (arith, w.i-is))
       | then-runs-test+else-left-lt1+then-octets-i w ↦ inr (omega (arith, w.if-octets-i.true, w.i-is), level_last c.args.v c.runs.left c.args.octets.now c.runs.i c.runs.o _ c.runs.invariant.0 c.runs.invariant.2 w.runs-test.true (omega (arith, w.if-left-lt1.false)) w.if-octets-i.true c.runs.invariant.3 ∙ (λ k. verdict 0 (sym w.left-is k) (sym w.i-is k)))
       | then-runs-test+else-left-lt1+else-octets-i+then-digits-test+then-left-more w ↦ inl (past_fails c.args.v w.digits.left w.digits.weight c.args.octets.now w.digits.i w.digits.o _ w.digits.invariant.0 w.digits.invariant.4 w.digits-test.true w.if-left-more.true w.digits.invariant.5 ∙ ap (λ (k : ℕ). Off k) (sym w.i-is), omega (arith, w.i-is))
@@ -80,7 +80,7 @@ returns c =
     let whole = scanned c.args.v c.args.n c.args.octets.now in
     -- where the ways out meet: an octet fails, or all octets were read
     let out : ((whole ≡ Off c.runs-test.i) × (c.runs-test.i < length c.args.octets.now)) ⊎ ((length c.args.octets.now ≤ c.runs-test.i) × (whole ≡ verdict 0 c.runs-test.left c.runs-test.i)) = elim c.runs-test.branch [
-      else-runs-test w ↦ inl (above_fails c.args.v c.runs.left c.args.octets.now c.runs.i c.runs.o _ c.runs.invariant.0 c.runs.invariant.2 w.runs-test.false c.runs.invariant.3 ∙ ap (λ (k : ℕ). Off k) (sym w.i-is), omega (arith, w.i-is))
+      | else-runs-test w ↦ inl (above_fails c.args.v c.runs.left c.args.octets.now c.runs.i c.runs.o _ c.runs.invariant.0 c.runs.invariant.2 w.runs-test.false c.runs.invariant.3 ∙ ap (λ (k : ℕ). Off k) (sym w.i-is), omega (arith, w.i-is))
       | then-runs-test+then-left-lt1 w ↦ inl (full_fails c.args.v c.runs.left c.args.octets.now c.runs.i c.runs.o _ c.runs.invariant.0 c.runs.invariant.2 w.runs-test.true w.if-left-lt1.true c.runs.invariant.3 ∙ ap (λ (k : ℕ). Off k) (sym w.i-is), omega (arith, w.i-is))
       | then-runs-test+else-left-lt1+then-octets-i w ↦ inr (omega (arith, w.if-octets-i.true, w.i-is), level_last c.args.v c.runs.left c.args.octets.now c.runs.i c.runs.o _ c.runs.invariant.0 c.runs.invariant.2 w.runs-test.true (omega (arith, w.if-left-lt1.false)) w.if-octets-i.true c.runs.invariant.3 ∙ (λ k. verdict 0 (sym w.left-is k) (sym w.i-is k)))
       | then-runs-test+else-left-lt1+else-octets-i+then-digits-test+then-left-more w ↦ inl (past_fails c.args.v w.digits.left w.digits.weight c.args.octets.now w.digits.i w.digits.o _ w.digits.invariant.0 w.digits.invariant.4 w.digits-test.true w.if-left-more.true w.digits.invariant.5 ∙ ap (λ (k : ℕ). Off k) (sym w.i-is), omega (arith, w.i-is))

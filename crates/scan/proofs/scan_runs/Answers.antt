@@ -1,5 +1,5 @@
 -- `scan_runs` meets its contract: what the loop over runs finds behind the blocks, moved by their octets, is what a scan of all finds.
-use Prim.Native.Nat.{ℕ, ◌-◌}
+use Prim.Native.Nat.{ℕ}
 use mathlib.Core.Path.{◌≡◌, sym, ap, ◌∙◌}
 use mathlib.Core.List.{List}
 use native.Mathlib.Omega.{arith}
@@ -13,20 +13,20 @@ use Rattle.scan.proofs.Scanning.{missed}
 use Rattle.scan.proofs.scan_runs.Goals as goal
 
 pub overflow_add-place : goal.overflow_add-place
-overflow_add-place c = 
+overflow_add-place c =
     let behind : (c.by_runs.result ≡ scanned c.args.v c.by_blocks-far.result.left (drop c.by_blocks-far.result.at c.args.octets.now)) = c.by_runs.ensures ∙ ap (λ (l : List ℕ). scanned c.args.v c.by_blocks-far.result.left l) (to_end c.args.octets.now c.by_blocks-far.result.at) in
     let rest : List ℕ = drop c.by_blocks-far.result.at c.args.octets.now in
     let no = missed (gives c.args.v c.by_blocks-far.result.left rest) (fault_at c.args.v c.by_blocks-far.result.left rest) c.in-Off.i (sym c.in-Off.is ∙ behind) in
     omega (arith, no.1, fault_inside c.args.v c.by_blocks-far.result.left rest, length-drop c.by_blocks-far.result.at c.args.octets.now, c.by_blocks-far.ensures.0)
 
 pub returns-in-Exact : goal.returns-in-Exact
-returns-in-Exact c = 
+returns-in-Exact c =
     let behind : (c.by_runs.result ≡ scanned c.args.v c.by_blocks-far.result.left (drop c.by_blocks-far.result.at c.args.octets.now)) = c.by_runs.ensures ∙ ap (λ (l : List ℕ). scanned c.args.v c.by_blocks-far.result.left l) (to_end c.args.octets.now c.by_blocks-far.result.at) in
     let all : moved c.by_blocks-far.result.at c.by_runs.result ≡ scanned c.args.v c.args.n c.args.octets.now = ap (λ (r : Scan). moved c.by_blocks-far.result.at r) behind ∙ c.by_blocks-far.ensures.2 in
     ap (λ (r : Scan). moved c.by_blocks-far.result.at r) (sym c.in-Exact.is) ∙ all
 
 pub returns-in-Off : goal.returns-in-Off
-returns-in-Off c = 
+returns-in-Off c =
     let behind : (c.by_runs.result ≡ scanned c.args.v c.by_blocks-far.result.left (drop c.by_blocks-far.result.at c.args.octets.now)) = c.by_runs.ensures ∙ ap (λ (l : List ℕ). scanned c.args.v c.by_blocks-far.result.left l) (to_end c.args.octets.now c.by_blocks-far.result.at) in
     let all : moved c.by_blocks-far.result.at c.by_runs.result ≡ scanned c.args.v c.args.n c.args.octets.now = ap (λ (r : Scan). moved c.by_blocks-far.result.at r) behind ∙ c.by_blocks-far.ensures.2 in
     ap (λ (r : Scan). moved c.by_blocks-far.result.at r) (sym c.in-Off.is) ∙ all

@@ -10,21 +10,19 @@ use Rattle.rules.proofs.Moved.{part_field}
 use Rattle.sections.proofs.is_framed.Goals as goal
 
 pub overflow_add-to : goal.overflow_add-to
-overflow_add-to c = 
+overflow_add-to c =
     let five : c.args.at + 5 ≤ c.args.end = leb-true _ _ (sym c.ends_by.ensures ∙ c.if-ends_by.true) in
     let f = five in record { fits = omega (arith, c.requires) }
 
 pub slice_bounds-head-end : goal.slice_bounds-head-end
-slice_bounds-head-end c = 
+slice_bounds-head-end c =
     let five : c.args.at + 5 ≤ c.args.end = leb-true _ _ (sym c.ends_by.ensures ∙ c.if-ends_by.true) in
     let f = five in omega (arith, c.requires)
 
 pub returns-then-ends_by : goal.returns-then-ends_by
 unfolding framed length_at number_at
-returns-then-ends_by c = 
+returns-then-ends_by c =
     let five : c.args.at + 5 ≤ c.args.end = leb-true _ _ (sym c.ends_by.ensures ∙ c.if-ends_by.true) in
-    
-    
     let f = five in
     let inside : c.args.at + 5 ≤ length c.args.s.now = omega (arith, c.requires) in
     let len = part_field c.args.s.now c.args.at (c.args.at + 5) inside 1 4 (omega arith) (omega arith) in

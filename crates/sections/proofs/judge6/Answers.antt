@@ -13,7 +13,7 @@ returns-then-length_at-ne6 c = rw (ne_eqb _ 6 (λ e. c.if-length_at-ne6.true (c.
 
 pub returns : goal.returns
 unfolding rules6
-returns c = 
+returns c =
     let inside : c.args.at + 6 ≤ length c.args.s.now = omega (arith, c.length_at.ensures, c.requires) in
     let part = part_rules c.args.s.now c.args.at (c.args.at + 6) inside 6 (omega arith) rules6 refl in
     rw (eq-eqb _ 6 (sym c.length_at.ensures ∙ c.if-length_at-ne6.false), c.check.ensures, c.accepted.ensures, c.fields6-fields6.ensures ∙ part)

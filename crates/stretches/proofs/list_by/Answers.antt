@@ -5,7 +5,7 @@ use Prim.Native.Nat.{ℕ, ◌-◌, ◌*◌, ◌/◌, ◌≤◌, ◌<◌}
 use native.Mathlib.Omega.{arith}
 use native.Mathlib.Nat.{mul-le-mul}
 use lib.ListN.{length, get_or}
-use Rattle.runs.specs.Run.{levels, run_len}
+use Rattle.runs.specs.Run.{run_len}
 use Rattle.runs.specs.Inner.{run_next, known_step}
 use Rattle.runs.specs.declared.Step.TheVariants.{Run}
 use Rattle.runs.proofs.Here.{gives_true, known_ended, known_told}
@@ -90,10 +90,10 @@ loop-bin-init c =
     let kind_is : get_or c.args.kinds.now c.in-Run.level 0 ≡ get_or c.args.kinds.now (get_or c.args.octets.now c.loop-level.at 0) 0 = ap (λ (l : ℕ). get_or c.args.kinds.now l 0) r.1 in
     let other : (get_or c.args.kinds.now c.in-Run.level 0 ≡ c.loop-level.held → ⊥) → get_or c.args.kinds.now (get_or c.args.octets.now c.loop-level.at 0) 0 ≡ c.loop-level.held → ⊥ = λ n e. n (kind_is ∙ e) in
     let turned : Going sc c.args.v c.args.nb c.args.nr c.args.octets.now c.loop-level.at c.loop-level.ray c.loop-level.bin c.if-kind-held.first c.if-kind-held.held
-        × (get_or c.args.kinds.now (get_or c.args.octets.now c.loop-level.at 0) 0 ≡ c.if-kind-held.held)
-        × (promised c.args.nr c.args.out.now (stretches_from sc c.args.v c.args.octets.now c.args.nb c.args.nr c.args.from)
-        ≡ due sc c.args.v c.args.nb c.args.nr c.args.octets.now c.args.from (length c.args.out.now / per_entry) c.if-kind-held.out c.if-kind-held.count c.loop-level.ray c.if-kind-held.first) = elim c.if-kind-held.branch [
-      then-kind-held+then-must_list+else-cap-count w ↦ rw (w.out-is, w.first-is, w.held-is, w.count-is, kind_is) (going_changed _ _ _ _ _ whole i.0 i.1 r.0 (other w.if-kind-held.true), refl, i.2 ∙ wrote _ _ _ _ _ _ _ (changing _ _ _ _ _ whole i.0 i.1 r.0 (other w.if-kind-held.true)) w.must_list.ensures w.if-must_list.true _ _ _ w.if-cap-count.false w.put.ensures)
+    × (get_or c.args.kinds.now (get_or c.args.octets.now c.loop-level.at 0) 0 ≡ c.if-kind-held.held)
+    × (promised c.args.nr c.args.out.now (stretches_from sc c.args.v c.args.octets.now c.args.nb c.args.nr c.args.from)
+    ≡ due sc c.args.v c.args.nb c.args.nr c.args.octets.now c.args.from (length c.args.out.now / per_entry) c.if-kind-held.out c.if-kind-held.count c.loop-level.ray c.if-kind-held.first) = elim c.if-kind-held.branch [
+      | then-kind-held+then-must_list+else-cap-count w ↦ rw (w.out-is, w.first-is, w.held-is, w.count-is, kind_is) (going_changed _ _ _ _ _ whole i.0 i.1 r.0 (other w.if-kind-held.true), refl, i.2 ∙ wrote _ _ _ _ _ _ _ (changing _ _ _ _ _ whole i.0 i.1 r.0 (other w.if-kind-held.true)) w.must_list.ensures w.if-must_list.true _ _ _ w.if-cap-count.false w.put.ensures)
       | then-kind-held+else-must_list w ↦ rw (w.out-is, w.first-is, w.held-is, w.count-is, kind_is) (going_changed _ _ _ _ _ whole i.0 i.1 r.0 (other w.if-kind-held.true), refl, i.2 ∙ passed _ _ _ _ _ _ _ (changing _ _ _ _ _ whole i.0 i.1 r.0 (other w.if-kind-held.true)) w.must_list.ensures w.if-must_list.false _ _)
       | else-kind-held w ↦ rw (w.out-is, w.first-is, w.held-is, w.count-is) (i.0, sym kind_is ∙ w.if-kind-held.false, i.2)
     ] in
@@ -139,7 +139,7 @@ loop-bin-preserved c =
     let over = c.loop-bin-test.true in (
       going_ended _ _ _ _ _ g over,
       elim c.if-must_list-2.branch [
-        then-must_list-2+else-cap-count-2 w ↦ rw (w.out-is, w.count-is, next_ray_lem) (c.loop-bin.invariant.1 ∙ wrote _ _ _ _ _ _ _ (ending _ _ _ _ _ g over) c.must_list-in-loop-bin.ensures w.if-must_list-2.true _ _ _ w.if-cap-count-2.false w.put-then-must_list-2.ensures)
+        | then-must_list-2+else-cap-count-2 w ↦ rw (w.out-is, w.count-is, next_ray_lem) (c.loop-bin.invariant.1 ∙ wrote _ _ _ _ _ _ _ (ending _ _ _ _ _ g over) c.must_list-in-loop-bin.ensures w.if-must_list-2.true _ _ _ w.if-cap-count-2.false w.put-then-must_list-2.ensures)
         | else-must_list-2 w ↦ rw (w.out-is, w.count-is, next_ray_lem) (c.loop-bin.invariant.1 ∙ passed _ _ _ _ _ _ _ (ending _ _ _ _ _ g over) c.must_list-in-loop-bin.ensures w.if-must_list-2.false _ _)
       ],
     )

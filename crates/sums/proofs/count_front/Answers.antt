@@ -22,20 +22,19 @@ pub lay-all-requires : goal.lay-all-requires
 lay-all-requires c = (c.requires.1, c.requires.2)
 
 pub whole_runs-whole-requires : goal.whole_runs-whole-requires
-whole_runs-whole-requires c = 
+whole_runs-whole-requires c =
     (c.requires.1, omega arith, omega arith, c.lay-all.ensures.value, c.lay-all.ensures.laid)
 
 pub loop-sum-init : goal.loop-sum-init
-loop-sum-init c = 
-    (
-      omega arith,
-      c.whole_runs-whole.ensures.laid.1 256 (omega arith) (omega arith),
-      omega arith,
-      omega arith,
-      omega arith,
-      omega arith,
-      counted_first c.args.v c.args.octets.now c.whole_runs-whole.result.octets _ c.whole_runs-whole.result.sum (omega arith) c.requires.1 c.whole_runs-whole.ensures.octets_bound.0 c.whole_runs-whole.ensures.octets_bound.1 c.whole_runs-whole.ensures.laid c.whole_runs-whole.ensures.octets_bound.2,
-    )
+loop-sum-init c = (
+  omega arith,
+  c.whole_runs-whole.ensures.laid.1 256 (omega arith) (omega arith),
+  omega arith,
+  omega arith,
+  omega arith,
+  omega arith,
+  counted_first c.args.v c.args.octets.now c.whole_runs-whole.result.octets _ c.whole_runs-whole.result.sum (omega arith) c.requires.1 c.whole_runs-whole.ensures.octets_bound.0 c.whole_runs-whole.ensures.octets_bound.1 c.whole_runs-whole.ensures.laid c.whole_runs-whole.ensures.octets_bound.2,
+)
 
 pub shape_of-row-then-weight-gt2097152 : goal.shape_of-row-then-weight-gt2097152
 shape_of-row-then-weight-gt2097152 c = c.loop-sum.invariant.0 ∙ sym c.requires.2
@@ -47,27 +46,27 @@ pub shift-deeper-requires : goal.shift-deeper-requires
 shift-deeper-requires c = (c.requires.1, c.loop-sum.invariant.0)
 
 pub overflow_sub-bins : goal.overflow_sub-bins
-overflow_sub-bins c = 
+overflow_sub-bins c =
     counted_less c.args.v c.args.octets.now _ c.loop-sum.row c.shift-deeper.new.row c.loop-sum.sum c.shift-deeper.result c.loop-sum.weight c.loop-sum.bins c.loop-sum.invariant.1 c.shift-deeper.ensures.shifted c.shift-deeper.ensures.value c.loop-sum.invariant.6
 
 pub overflow_mul-bins : goal.overflow_mul-bins
-overflow_mul-bins c = 
+overflow_mul-bins c =
     omega (arith, products (c.loop-sum.sum - c.shift-deeper.result) c.loop-sum.weight c.args.v (omega arith) (omega arith) (omega arith))
 
 pub overflow_add-bins : goal.overflow_add-bins
-overflow_add-bins c = 
+overflow_add-bins c =
     omega (arith, products (c.loop-sum.sum - c.shift-deeper.result) c.loop-sum.weight c.args.v (omega arith) (omega arith) (omega arith))
 
 pub overflow_mul-weight : goal.overflow_mul-weight
-overflow_mul-weight c = 
+overflow_mul-weight c =
     omega (arith, products 0 c.loop-sum.weight c.args.v (omega arith) (omega arith) (omega arith))
 
 pub loop-sum-smaller : goal.loop-sum-smaller
-loop-sum-smaller c = 
+loop-sum-smaller c =
     omega (arith, products 0 c.loop-sum.weight c.args.v (omega arith) (omega arith) (omega arith))
 
 pub loop-sum-preserved : goal.loop-sum-preserved
-loop-sum-preserved c = 
+loop-sum-preserved c =
     let p = products (c.loop-sum.sum - c.shift-deeper.result) c.loop-sum.weight c.args.v (omega arith) (omega arith) (omega arith) in (
       omega arith,
       c.shift-deeper.ensures.shifted.1 ∙ c.loop-sum.invariant.1,
@@ -82,5 +81,5 @@ pub shape_of-row : goal.shape_of-row
 shape_of-row c = c.loop-sum.invariant.0 ∙ sym c.requires.2
 
 pub returns : goal.returns
-returns c = 
+returns c =
     inr (omega arith, omega arith, c.whole_runs-whole.ensures.octets_bound.1, counted_all c.args.v c.args.octets.now c.whole_runs-whole.result.octets c.loop-sum.row c.loop-sum.weight c.loop-sum.bins (subst (λ (x : ℕ). Counted c.args.v c.args.octets.now c.whole_runs-whole.result.octets c.loop-sum.row x c.loop-sum.weight c.loop-sum.bins) (omega arith) c.loop-sum.invariant.6))

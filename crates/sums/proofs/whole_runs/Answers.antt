@@ -50,17 +50,17 @@ loop-e-smaller c = omega (arith, later c.args.octets.now c.args.v c.loop-e.e c.r
 
 pub loop-e-preserved : goal.loop-e-preserved
 loop-e-preserved c = let back : c.loop-e.e - 1 + 1 ≡ c.loop-e.e = omega (arith, later c.args.octets.now c.args.v c.loop-e.e c.requires.2 c.loop-e-test.true) in (
-      omega arith,
-      simp length-set c.loop-e.invariant.1,
-      omega (arith, here c.args.octets.now c.loop-e.row c.args.v c.loop-e.e c.loop-e.rest c.loop-e.invariant.2 c.loop-e-test.true (c.loop-e.invariant.3.0 c.loop-e.e (omega arith)), ap (λ (k : ℕ). total (λ i. alone c.args.v (get_or c.args.octets.now i 0)) k) back),
-      (
-        (λ j h. read_below ℕ c.loop-e.row c.loop-e.e j 0 0 _ (omega (arith, back)) (c.loop-e.invariant.3.0 j (omega (arith, back)))),
-        λ j h g.
-            by_order j c.loop-e.e
-            (λ near. let same : j ≡ c.loop-e.e = omega (arith, back) in ap (λ (k : ℕ). get_or (set c.loop-e.row c.loop-e.e 0) k 0) same ∙ get_or-set_same c.loop-e.row c.loop-e.e 0 0 (omega arith))
-            (λ far. read_above ℕ c.loop-e.row c.loop-e.e j 0 0 _ far (c.loop-e.invariant.3.1 j (omega arith) g)),
-      ),
-    )
+  omega arith,
+  simp length-set c.loop-e.invariant.1,
+  omega (arith, here c.args.octets.now c.loop-e.row c.args.v c.loop-e.e c.loop-e.rest c.loop-e.invariant.2 c.loop-e-test.true (c.loop-e.invariant.3.0 c.loop-e.e (omega arith)), ap (λ (k : ℕ). total (λ i. alone c.args.v (get_or c.args.octets.now i 0)) k) back),
+  (
+    (λ j h. read_below ℕ c.loop-e.row c.loop-e.e j 0 0 _ (omega (arith, back)) (c.loop-e.invariant.3.0 j (omega (arith, back)))),
+    λ j h g.
+        by_order j c.loop-e.e
+        (λ near. let same : j ≡ c.loop-e.e = omega (arith, back) in ap (λ (k : ℕ). get_or (set c.loop-e.row c.loop-e.e 0) k 0) same ∙ get_or-set_same c.loop-e.row c.loop-e.e 0 0 (omega arith))
+        (λ far. read_above ℕ c.loop-e.row c.loop-e.e j 0 0 _ far (c.loop-e.invariant.3.1 j (omega arith) g)),
+  ),
+)
 
 pub overflow_sub-result : goal.overflow_sub-result
 overflow_sub-result c = omega (arith, opens c.args.octets.now c.args.v c.loop-e.e c.loop-e.rest c.loop-e.invariant.2 c.loop-e-test.false)
@@ -69,10 +69,13 @@ pub shape_of-row : goal.shape_of-row
 shape_of-row c = c.loop-e.invariant.1 ∙ sym c.requires.1
 
 pub returns : goal.returns
-returns c = record { octets_bound = (c.loop-e.invariant.0, c.loop-e-test.false, omega (arith, opens c.args.octets.now c.args.v c.loop-e.e c.loop-e.rest c.loop-e.invariant.2 c.loop-e-test.false)); laid = (
-        (λ j h. c.loop-e.invariant.3.0 j (omega arith)),
-        λ j h g.
-            by_order j c.loop-e.e
-            (λ near. let same : j ≡ c.loop-e.e = omega arith in ap (λ (k : ℕ). get_or c.loop-e.row k 0) same ∙ c.loop-e.invariant.3.0 c.loop-e.e (omega arith) ∙ omega (arith, c.loop-e-test.false))
-            (λ far. c.loop-e.invariant.3.1 j (omega arith) g),
-      ) }
+returns c = record {
+  octets_bound = (c.loop-e.invariant.0, c.loop-e-test.false, omega (arith, opens c.args.octets.now c.args.v c.loop-e.e c.loop-e.rest c.loop-e.invariant.2 c.loop-e-test.false));
+  laid = (
+    (λ j h. c.loop-e.invariant.3.0 j (omega arith)),
+    λ j h g.
+        by_order j c.loop-e.e
+        (λ near. let same : j ≡ c.loop-e.e = omega arith in ap (λ (k : ℕ). get_or c.loop-e.row k 0) same ∙ c.loop-e.invariant.3.0 c.loop-e.e (omega arith) ∙ omega (arith, c.loop-e-test.false))
+        (λ far. c.loop-e.invariant.3.1 j (omega arith) g),
+  );
+}

@@ -2,7 +2,6 @@
 use Rattle.values.specs.declared.Reading.{Reading}
 use Rattle.lent.proofs.Filled.{filled_more}
 use mathlib.Core.Path.{refl, ◌∙◌, ap}
-use Prim.Native.Nat.{◌-◌}
 use native.Mathlib.Nat.{not-suc-le-zero}
 use native.Mathlib.Omega.{arith}
 use Rattle.kinds.specs.KindTable.{kind_number}
@@ -34,7 +33,7 @@ pub overflow_add-level : goal.overflow_add-level
 overflow_add-level c = let e = ap length c.requires ∙ table_length c.args.product in omega (arith, count_le c.args.product)
 
 pub loop-level-preserved : goal.loop-level-preserved
-loop-level-preserved c = 
+loop-level-preserved c =
     let e = ap length c.requires ∙ table_length c.args.product in (
       omega arith,
       simp length-set c.loop-level.invariant.1,

@@ -41,18 +41,18 @@ pub run_upto-requires : goal.run_upto-requires
 run_upto-requires c = (base_low c.args.product c.args.v c.requires.bins.low, omega (arith, c.requires.bins.near))
 
 pub reading_in-reading-requires : goal.reading_in-reading-requires
-reading_in-reading-requires c = 
+reading_in-reading-requires c =
     let run : CutOff c.args.v c.args.octets.now c.loop-level.at (c.args.b - c.loop-level.bins) c.in-Run.level c.in-Run.len c.in-Run.next = cut_told c.args.v _ c.args.octets.now c.loop-level.at _ _ _ (sym c.in-Run.is ∙ c.run_upto.ensures) in
     let r = run in record { table_value = c.requires.table_value; level_bound = omega (arith, c.requires.bins.low, r.is, here_low c.args.v c.args.octets.now c.loop-level.at c.loop-level.bins (upto_stands _ _ _ _ _ c.loop-level.invariant.0 _ _ _ r) (upto_more _ _ _ _ _ c.loop-level.invariant.0 _ _ _ r)) }
 
 pub overflow_add-to : goal.overflow_add-to
-overflow_add-to c = 
+overflow_add-to c =
     let run : CutOff c.args.v c.args.octets.now c.loop-level.at (c.args.b - c.loop-level.bins) c.in-Run.level c.in-Run.len c.in-Run.next = cut_told c.args.v _ c.args.octets.now c.loop-level.at _ _ _ (sym c.in-Run.is ∙ c.run_upto.ensures) in
     let past : (0 < c.in-Run.len) × Upto c.args.v c.args.octets.now c.args.b c.in-Run.next (c.loop-level.bins + c.in-Run.len) = upto_next c.args.v c.args.octets.now c.args.b c.loop-level.at c.loop-level.bins c.loop-level.invariant.0 _ _ _ (run) in
     record { fits = omega (arith, (past).1.few, c.requires.bins.near) }
 
 pub put_reading-requires : goal.put_reading-requires
-put_reading-requires c = 
+put_reading-requires c =
     let size-marks : length c.loop-level.marks ≡ length c.args.marks.now = ap length c.loop-level.invariant.1 ∙ updated_length _ _ _ in
     let size-values : length c.loop-level.values ≡ length c.args.values.now = ap length c.loop-level.invariant.2 ∙ updated_length _ _ _ in
     let run : CutOff c.args.v c.args.octets.now c.loop-level.at (c.args.b - c.loop-level.bins) c.in-Run.level c.in-Run.len c.in-Run.next = cut_told c.args.v _ c.args.octets.now c.loop-level.at _ _ _ (sym c.in-Run.is ∙ c.run_upto.ensures) in
@@ -64,16 +64,15 @@ put_reading-requires c =
     )
 
 pub loop-level-smaller : goal.loop-level-smaller
-loop-level-smaller c = 
+loop-level-smaller c =
     let run : CutOff c.args.v c.args.octets.now c.loop-level.at (c.args.b - c.loop-level.bins) c.in-Run.level c.in-Run.len c.in-Run.next = cut_told c.args.v _ c.args.octets.now c.loop-level.at _ _ _ (sym c.in-Run.is ∙ c.run_upto.ensures) in
     let past : (0 < c.in-Run.len) × Upto c.args.v c.args.octets.now c.args.b c.in-Run.next (c.loop-level.bins + c.in-Run.len) = upto_next c.args.v c.args.octets.now c.args.b c.loop-level.at c.loop-level.bins c.loop-level.invariant.0 _ _ _ (run) in
     omega (arith, (past).0, (run).wanted)
 
 pub loop-level-preserved : goal.loop-level-preserved
-loop-level-preserved c = 
+loop-level-preserved c =
     let run : CutOff c.args.v c.args.octets.now c.loop-level.at (c.args.b - c.loop-level.bins) c.in-Run.level c.in-Run.len c.in-Run.next = cut_told c.args.v _ c.args.octets.now c.loop-level.at _ _ _ (sym c.in-Run.is ∙ c.run_upto.ensures) in
     let past : (0 < c.in-Run.len) × Upto c.args.v c.args.octets.now c.args.b c.in-Run.next (c.loop-level.bins + c.in-Run.len) = upto_next c.args.v c.args.octets.now c.args.b c.loop-level.at c.loop-level.bins c.loop-level.invariant.0 _ _ _ (run) in
-    
     let r = run in
     let p = past in
     let len = run_len c.args.v c.args.octets.now c.loop-level.at in
@@ -102,12 +101,12 @@ loop-level-preserved c =
     )
 
 pub shape_of-marks-in-End : goal.shape_of-marks-in-End
-shape_of-marks-in-End c = 
+shape_of-marks-in-End c =
     let size-marks : length c.loop-level.marks ≡ length c.args.marks.now = ap length c.loop-level.invariant.1 ∙ updated_length _ _ _ in
     size-marks
 
 pub shape_of-values-in-End : goal.shape_of-values-in-End
-shape_of-values-in-End c = 
+shape_of-values-in-End c =
     let size-values : length c.loop-level.values ≡ length c.args.values.now = ap length c.loop-level.invariant.2 ∙ updated_length _ _ _ in
     size-values
 

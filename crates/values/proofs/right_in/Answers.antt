@@ -4,7 +4,7 @@ use lib.IntN.{ℤ, pos}
 use mir.Syntax.{w16}
 use mir.Facts.{to_z-of_z}
 use mathlib.Core.Path.{refl, ◌∙◌, sym, ap, subst}
-use Prim.Native.Nat.{◌+◌, ◌*◌, ◌-◌, ◌<◌}
+use Prim.Native.Nat.{◌+◌, ◌*◌, ◌<◌}
 use native.Mathlib.Omega.{arith}
 use lib.ListN.{get_or}
 use Rattle.values.specs.Table.{sign_magnitude}

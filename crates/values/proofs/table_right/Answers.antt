@@ -20,10 +20,10 @@ right_in_parts-requires-in-Velocity c = rw c.velocity_table-table.ensures (omega
 
 pub returns-in-Reflectivity : goal.returns-in-Reflectivity
 unfolding table_right table_octets
-returns-in-Reflectivity c = 
+returns-in-Reflectivity c =
     c.right_in_parts.ensures ∙ ap (λ (l : List ℤ). same c.args.octets.now (octets_of l)) c.reflectivity_table-table.ensures ∙ sym (ap (table_right c.args.octets.now) c.in-Reflectivity.is)
 
 pub returns-in-Velocity : goal.returns-in-Velocity
 unfolding table_right table_octets
-returns-in-Velocity c = 
+returns-in-Velocity c =
     c.right_in_parts-in-Velocity.ensures ∙ ap (λ (l : List ℤ). same c.args.octets.now (octets_of l)) c.velocity_table-table.ensures ∙ sym (ap (table_right c.args.octets.now) c.in-Velocity.is)
