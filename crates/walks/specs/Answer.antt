@@ -1,7 +1,6 @@
 -- What the walk answers.
 use Rattle.std.specs.Prelude.{ℕ, length, get_or}
 use Rattle.sections.specs.Verdict.{Verdict, accepted, refused, default_cut}
-use Rattle.walks.specs.declared.Found.{Found}
 use Rattle.walks.specs.declared.Walked.{Walked}
 use Rattle.walks.specs.declared.Walked.TheVariants.{Accepted, Refused}
 

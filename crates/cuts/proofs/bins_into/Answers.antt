@@ -1,7 +1,6 @@
 -- What `levels_into` asks and gives, said of a good cut (Places.antt).
 use Rattle.cuts.proofs.Places.{fill_asks, fill_gives, few_bins}
 use native.Mathlib.Omega.{arith}
-use Prim.Native.Nat.{◌-◌}
 use mathlib.Core.Path.{◌∙◌}
 use Rattle.cuts.proofs.bins_into.Goals as goal
 

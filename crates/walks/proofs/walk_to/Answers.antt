@@ -4,7 +4,6 @@ use Rattle.walks.specs.Walk.{ended_as}
 use Rattle.walks.proofs.Ready.{sound}
 use native.Mathlib.Omega.{arith}
 use mathlib.Core.Path.{sym, ◌∙◌}
-use Prim.Native.Nat.{◌-◌}
 use Rattle.walks.proofs.walk_to.Goals as goal
 
 pub loop-refusal-init : goal.loop-refusal-init
