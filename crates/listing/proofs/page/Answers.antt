@@ -18,7 +18,7 @@ pub loop-at-smaller : goal.loop-at-smaller
 loop-at-smaller c = c.step-s.ensures.falls (sym c.is_finished.ensures ∙ c.if-is_finished.false)
 
 pub loop-at-preserved : goal.loop-at-preserved
-loop-at-preserved c = (page_more _ _ _ _ _ _ _ _ _ _ c.loop-at.invariant.0 c.step-s.ensures, c.step-s.auto.1.1.0 ∙ c.loop-at.invariant.1)
+loop-at-preserved c = (page_more _ _ _ _ _ _ _ _ _ _ c.loop-at.invariant.0 c.step-s.ensures, c.step-s.auto.words ∙ c.loop-at.invariant.1)
 
 pub shape_of-words-after-loop-at : goal.shape_of-words-after-loop-at
 shape_of-words-after-loop-at c = c.loop-at.invariant.1

@@ -10,6 +10,6 @@ returns-then-written-n c =
 
 pub returns : goal.returns
 returns c =
-    step_past c.args.file.now c.args.words.now c.args.text.now c.put_entries-to.last.0 c.args.at c.put_entries-to.result c.args.part c.args.l c.args.written
+    step_past c.args.file.now c.args.words.now c.args.text.now c.put_entries-to.new.out c.args.at c.put_entries-to.result c.args.part c.args.l c.args.written
     c.least-n.result c.requires.in_words (omega (arith, c.least-n.ensures, c.requires.in_words.some_left)) c.put_entries-to.ensures (omega (arith, c.least-n.ensures, c.requires.in_words.some_left)) c.if-written-n.false
     c.moved_on-next.result (c.moved_on-next.ensures c.args.words.now)

@@ -11,7 +11,7 @@ list_part-next-requires c = (rw c.in-ToList.is at c.requires.sound, c.requires.p
 
 pub put_more_lines-requires : goal.put_more_lines-requires
 unfolding Sound
-put_more_lines-requires c = record { in_words = rw c.p4.given.1 at c.requires.sound; step_room_in_bounds = c.requires.per_entry_in_bounds.1 }
+put_more_lines-requires c = record { in_words = rw c.in-ToWrite.is at c.requires.sound; step_room_in_bounds = c.requires.per_entry_in_bounds.1 }
 
 pub returns-in-Refused : goal.returns-in-Refused
 returns-in-Refused c =
@@ -29,7 +29,7 @@ returns-in-ToList c =
     c.list_part-next.ensures.to_come c.list_part-next.ensures.result_value (omega (arith, c.requires.per_entry_in_bounds.1))
 
 pub returns-in-ToWrite : goal.returns-in-ToWrite
-returns-in-ToWrite c = rw c.p4.given.1 c.put_more_lines.ensures
+returns-in-ToWrite c = rw c.in-ToWrite.is c.put_more_lines.ensures
 
 pub returns-in-End : goal.returns-in-End
 returns-in-End c =
