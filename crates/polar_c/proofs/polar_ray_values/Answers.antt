@@ -4,10 +4,10 @@ use Rattle.c_words.proofs.Fits.{ray_fits}
 use Rattle.polar_c.proofs.polar_ray_values.Goals as goal
 
 pub ray_return-requires : goal.ray_return-requires
-ray_return-requires c = 
+ray_return-requires c =
     rw c.ray_values.ensures.answer (ray_fits _ _ _ _)
 
 pub returns : goal.returns
-returns c = 
+returns c =
     let e = sym c.ray_values.ensures.answer in
     record { returned = rw e c.ray_return.ensures; marked = rw e c.ray_values.ensures.marked; held = rw e c.ray_values.ensures.valued }

@@ -9,13 +9,11 @@ use Rattle.c_words.proofs.Arguments.{narrow_fits, stretch_narrow, words_narrow}
 use Rattle.polar_c.proofs.polar_stretches.Goals as goal
 
 pub put_stretches-requires : goal.put_stretches-requires
-put_stretches-requires c = 
+put_stretches-requires c =
     rw c.stretches.ensures.answer (stretches_fits _ _ _ _ _ _)
 
 pub returns : goal.returns
-returns c = 
-    
-    
+returns c =
     let narrow = rw (to_z-of_z w64 c.args.t c.ranges.t) at c.narrow_threshold-threshold.ensures in
     let back = to_z-of_z w32 (narrow_threshold c.args.t) (narrow_fits c.args.t) in
     let e = rw (narrow, back) at c.stretches.ensures.answer ∙ stretch_narrow c.args.file.now c.args.cut c.args.t c.args.ray c.args.bin (length c.args.words.now) in
