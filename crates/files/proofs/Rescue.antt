@@ -32,8 +32,8 @@ record Same (n m : ℕ) (o p r q : List ℕ) : Type 0 where
 same_section : {n m : ℕ} {o p : List ℕ} (r q : List ℕ) → Is n o → Is m p → o ++ r ≡ p ++ q → Same n m o p r q
 unfolding length_at number_at
 same_section {o = o} {p = p} r q i j e =
-    let some-o = i.some in
-    let some-p = j.some in
+    let some_o = i.some in
+    let some_p = j.some in
     let lo : Lies (o ++ r) 0 o = record { after = r; from = refl } in
     let lp : Lies (o ++ r) 0 p = record { after = q; from = e } in
     let long : length o ≡ length p =
@@ -173,14 +173,14 @@ unchanged k s ps file small =
     let size = size_of a in
     let back = drop 8 a.zero in
     let long : length back ≡ 8 = length-drop 8 a.zero ∙ (omega arith) in
-    let back-lies : Lies a.zero 8 back = record { after = []; from = sym (append-nil back) } in
-    let in-zero = small_there s 0 a.zero (record { after = a.one ++ (a.cuts ++ t); from = a.is }) small in
-    let in-eight = small_there s (37 + length a.cuts) t (record { after = []; from = past_cuts a ∙ sym (append-nil t) }) small in
+    let back_lies : Lies a.zero 8 back = record { after = []; from = sym (append-nil back) } in
+    let in_zero = small_there s 0 a.zero (record { after = a.one ++ (a.cuts ++ t); from = a.is }) small in
+    let in_eight = small_there s (37 + length a.cuts) t (record { after = []; from = past_cuts a ∙ sym (append-nil t) }) small in
     let total : be back 0 8 ≡ 16 + (length a.one + (length a.cuts + 4)) =
-    sym (be_same a.zero 8 back back-lies 0 8 (omega arith)) ∙ file.total ∙ (omega arith) in
+    sym (be_same a.zero 8 back back_lies 0 8 (omega arith)) ∙ file.total ∙ (omega arith) in
     let zero_same : totalled a.zero (16 + (length a.one + (length a.cuts + 4))) ≡ a.zero =
-    ap (λ (x : List ℕ). take 8 a.zero ++ x) (written_are back 8 _ (small_there a.zero 8 back back-lies in-zero) long total)
+    ap (λ (x : List ℕ). take 8 a.zero ++ x) (written_are back 8 _ (small_there a.zero 8 back back_lies in_zero) long total)
     ∙ take-append-drop 8 a.zero in
-    let sevens-there : be t 0 4 ≡ 0x37373737 = is_exactly t 0 1 4 0x37373737 (nth_rule t 0 rules8 (is 0 0 0) file.eight_is 0 (omega arith)) in
-    let eight-same : sevens ≡ t = seven_octets ∙ written_are t 4 0x37373737 in-eight l8 sevens-there in
-    (λ i. zero_same i ++ (a.one ++ (a.cuts ++ eight-same i))) ∙ sym a.is
+    let sevens_there : be t 0 4 ≡ 0x37373737 = is_exactly t 0 1 4 0x37373737 (nth_rule t 0 rules8 (is 0 0 0) file.eight_is 0 (omega arith)) in
+    let eight_same : sevens ≡ t = seven_octets ∙ written_are t 4 0x37373737 in_eight l8 sevens_there in
+    (λ i. zero_same i ++ (a.one ++ (a.cuts ++ eight_same i))) ∙ sym a.is

@@ -187,7 +187,7 @@ module _ (f : Format) (s : List ℕ) (ps qs : List Parts) (file : File f s ps) (
       let a = file.leading in
       let first = first_four ps in
       let short = no_longer f first [] [] qs ps a.cuts sub a.cuts_are in
-      let none-due : cost f first [] [] ≡ 0 = rw (same_refl []) in
+      let none_due : cost f first [] [] ≡ 0 = rw (same_refl []) in
       omega arith
 
   -- Smaller file: the chosen cuts of a file, written after its sections 0 and 1, are a file with just these cuts

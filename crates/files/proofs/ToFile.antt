@@ -159,10 +159,10 @@ file_of f s cs a =
     let e16 : length (drop 16 s) ≡ length s - 16 = length-drop 16 s in
     let zero_long : length (take 16 s) ≡ 16 = length-take 16 s ∙ (omega arith) in
     let eight_long : length (drop end s) ≡ 4 = length-drop end s ∙ (omega arith) in
-    let zero-lies : Lies s 0 (take 16 s) = record { after = drop 16 s; from = sym (take-append-drop 16 s) } in
-    let eight-lies : Lies s end (drop end s) = record { after = []; from = sym (append-nil (drop end s)) } in
+    let zero_lies : Lies s 0 (take 16 s) = record { after = drop 16 s; from = sym (take-append-drop 16 s) } in
+    let eight_lies : Lies s end (drop end s) = record { after = []; from = sym (append-nil (drop end s)) } in
     let zero_right : Meets (take 16 s) 0 (rules0 (length s)) =
-    sym (rules_same s 0 (take 16 s) zero-lies 16 (omega arith) (rules0 (length s)) (reach0 (length s))) ∙ a.zero in
+    sym (rules_same s 0 (take 16 s) zero_lies 16 (omega arith) (rules0 (length s)) (reach0 (length s))) ∙ a.zero in
     let total : total_in (take 16 s) ≡ length s = total_of (take 16 s) (length s) zero_right in
     let cuts_are : Cuts f of [] ps all.rest = subst (λ (x : List Parts). Cuts f of [] x all.rest) all.are all.cuts in
     let all_are : ps ≡ map (parts_at s) cs = ap (map (parts_at s)) (sym p.are) in
@@ -194,5 +194,5 @@ file_of f s cs a =
       some = omega arith;
       few = omega arith;
       eight_long = eight_long;
-      eight_is = sym (rules_same s end (drop end s) eight-lies 4 (omega arith) rules8 reach8) ∙ p.eight;
+      eight_is = sym (rules_same s end (drop end s) eight_lies 4 (omega arith) rules8 reach8) ∙ p.eight;
     }

@@ -113,17 +113,17 @@ same_calls s t cs ds a b i j lt lu e =
     let n = by_octets t ds b j lu in
     let x = cut_is s cs a i lt in
     let y = cut_is t ds b j lu in
-    let product-of : product_in s (cut_in s i) ≡ product_in t (cut_in t j) = ap (product_in s) x ∙ product s t c d p q m n e ∙ sym (ap (product_in t) y) in
-    let ray-of : (ray : ℕ) → ray_in s (cut_in s i) ray ≡ ray_in t (cut_in t j) ray =
+    let product_of : product_in s (cut_in s i) ≡ product_in t (cut_in t j) = ap (product_in s) x ∙ product s t c d p q m n e ∙ sym (ap (product_in t) y) in
+    let ray_of : (ray : ℕ) → ray_in s (cut_in s i) ray ≡ ray_in t (cut_in t j) ray =
     λ ray. ap (λ (z : Cut). ray_in s z ray) x ∙ ray_in_lem s t c d p q m n e ray ∙ sym (ap (λ (z : Cut). ray_in t z ray) y) in
     let list_of : (v : ℤ) (ray bin : ℕ) → stretches_in s (cut_in s i) v ray bin ≡ stretches_in t (cut_in t j) v ray bin =
     λ v ray bin. ap (λ (z : Cut). stretches_in s z v ray bin) x ∙ stretches s t c d p q m n e v ray bin ∙ sym (ap (λ (z : Cut). stretches_in t z v ray bin) y) in
     record {
       cut = on_its_cut s cs a i lt _ _ ∙ ap C.Cut (info s t c d p q m n e) ∙ sym (on_its_cut t ds b j lu _ _);
       rays = λ ray room. on_its_cut s cs a i lt _ _ ∙ ray_on_lem s t c d p q m n e ray room ∙ sym (on_its_cut t ds b j lu _ _);
-      levels = λ r ray out. ap (λ (l : List ℕ). if_written r (front l out) out) (ray-of ray);
-      marks = λ r ray out. (λ k. if_written r (marks_of (product-of k) (ray-of ray k) out) out);
-      values = λ r ray out. (λ k. if_written r (values_of (product-of k) (ray-of ray k) out) out);
+      levels = λ r ray out. ap (λ (l : List ℕ). if_written r (front l out) out) (ray_of ray);
+      marks = λ r ray out. (λ k. if_written r (marks_of (product_of k) (ray_of ray k) out) out);
+      values = λ r ray out. (λ k. if_written r (values_of (product_of k) (ray_of ray k) out) out);
       bin = λ ray bin. on_its_cut s cs a i lt _ _ ∙ bin_on_lem s t c d p q m n e ray bin ∙ sym (on_its_cut t ds b j lu _ _);
       stretches = λ v ray bin room. on_its_cut s cs a i lt _ _ ∙ stretches_on_lem s t c d p q m n e v ray bin room ∙ sym (on_its_cut t ds b j lu _ _);
       words = λ r v ray bin out. ap (λ l. if_listed r (out_of out l) out) (list_of v ray bin);

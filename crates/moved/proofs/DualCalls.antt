@@ -53,8 +53,8 @@ unfolding bin_on bin_by
 bin_by_lem s c p m ray bin =
     guarded (ltb ray (rays_in s c) && ltb bin (bins_in s c)) _ _ _
     (λ e.
-    let in-range = and_true_both (ltb ray (rays_in s c)) (ltb bin (bins_in s c)) e in
-    ap bin_of (m.tells ray bin (ltb-true _ _ in-range.0) (ltb-true _ _ in-range.1)))
+    let in_range = and_true_both (ltb ray (rays_in s c)) (ltb bin (bins_in s c)) e in
+    ap bin_of (m.tells ray bin (ltb-true _ _ in_range.0) (ltb-true _ _ in_range.1)))
     ∙ (λ i. cond (ltb ray (m.rays i) && ltb bin (m.bins i)) (bin_of (told_by p ray bin)) (B.Refused (refuse Argument 0)))
 
 module _ (s : List ℕ) (cs : List Cut) (a : Accepted s cs) where

@@ -92,9 +92,9 @@ smaller s cs w a some =
     let sub : Some qs ps = subst (λ (x : List Parts). Some x ps) (chosen_map (parts_at s) w cs) (chosen_some w ps) in
     let n = length-map few (parts_at s) in
     let t = smaller_of s cs w in
-    let same-file : assembled file.leading.zero file.leading.one (cuts_after [] qs) ≡ t =
+    let same_file : assembled file.leading.zero file.leading.one (cuts_after [] qs) ≡ t =
     (λ i. assembled (sym (zero_is file.leading) i) (sym (one_is file.leading) i) (cuts_after [] qs)) in
-    let made : File base_format t qs = subst (λ (x : List ℕ). File base_format x qs) same-file
+    let made : File base_format t qs = subst (λ (x : List ℕ). File base_format x qs) same_file
     (smaller_file base_format s ps qs file sub regular (omega arith)) in
     let k = of_file base_format t qs made in
     let ds = k.cs in
@@ -115,7 +115,7 @@ smaller s cs w a some =
     record {
       ds = ds;
       accepted = k.accepted;
-      no_longer = subst (λ (x : List ℕ). length x ≤ length s) same-file (smaller_short base_format s ps qs file sub regular (omega arith));
+      no_longer = subst (λ (x : List ℕ). length x ≤ length s) same_file (smaller_short base_format s ps qs file sub regular (omega arith));
       count = count;
       opens =
           same_open s t cs ds a k.accepted (get_or numbers 0 0) (omega arith) (let x = numbers_few w 0 (length cs) 0 (omega arith) in omega arith) (here 0 (omega arith))
