@@ -205,7 +205,7 @@ pub fn next_ray(octets: &[u8], p: Pace) -> Pace
     ray_on(&octets[from..to], p)
 }
 
-// The records of n rays from the next one on, at the front of a lent row. Proved by hand: the borrow checker covers no slice of structs.
+// The records of n rays from the next one on, at the front of a lent row.
 pub fn lay(octets: &[u8], start: Pace, n: usize, row: &mut [RayRecord])
     requires { Going octets.now start n × (n ≤ length row.old) }
     ensures { row.new ≡ front (records n start.nb start.v (data_in octets.now start) start.bin) row.old }

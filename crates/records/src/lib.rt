@@ -79,7 +79,7 @@ fn task_for(file: &[u8], i: usize, room: usize) -> Task
     }
 }
 
-// Build an index: a record for each ray of cut i, at the front of row. Proved by hand: the borrow checker covers no slice of structs.
+// Build an index: a record for each ray of cut i, at the front of row.
 pub fn build_index(file: &[u8], i: usize, row: &mut [RayRecord]) -> RayAnswer
     ensures { BuildPromise file.now i row.old result row.new }
 {
