@@ -50,6 +50,7 @@ past_first n (later e f) = (e, f)
 
 alone : {r q : Refusal} {a : Bool} → FirstFails r (check q a ∷ []) → (r ≡ q) × (a ≡ false)
 alone (this e) = (refl, e)
+alone (later e f) = elim f [ ]
 
 module _ (s : List ℕ) (p : ℕ) where
   -- another number's refusal

@@ -56,20 +56,20 @@ open_by s q h r p = p.answer ∙ ap (on_file O.Refused (λ n c. O.File (summary_
 
 -- a wrong place of 8, where there are too few bins: section 7's start (673), its last octet, the data's length counted from that start. It is one past the data, where `7777` stands
 pub data_too_few : (r : Opened) → OpenPromise data_short r → r ≡ O.Refused (refuse Data 685)
-data_too_few = open_by data_short _ verdicts.data_short
+data_too_few = open_by data_short _ verdicts.data_short_lem
 
 -- where the first octet is above V: the section's start. It is that octet
 pub data_above_v : (r : Opened) → OpenPromise data_above r → r ≡ O.Refused (refuse Data 678)
-data_above_v = open_by data_above _ verdicts.data_above
+data_above_v = open_by data_above _ verdicts.data_above_lem
 
 -- where the bins are passed: the section's start, the run's level (682), the zero digit after it, one past the fault, the offset counted from the section's start (679). It is the digit
 -- that passes them
 pub data_passed : (r : Opened) → OpenPromise data_long r → r ≡ O.Refused (refuse Data 684)
-data_passed = open_by data_long _ verdicts.data_long
+data_passed = open_by data_long _ verdicts.data_long_lem
 
 -- and in the second cut
 pub later_data_passed : (r : Opened) → OpenPromise later_long r → r ≡ O.Refused (refuse Data 1324)
-later_data_passed = open_by later_long _ verdicts.later_long
+later_data_passed = open_by later_long _ verdicts.later_long_lem
 
 -- 5 tested before 4, in section 1
 pub length_before_field : (r : Opened) → OpenPromise long_one r → r ≡ O.Refused (refuse SectionLength 16)
