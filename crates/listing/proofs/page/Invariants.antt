@@ -1,3 +1,4 @@
+-- Before each step: the octets written so far are a page, the words are as many as they were, and fewer steps are left each time.
 use mathlib.Core.Path.{◌≡◌}
 use lib.ListN.{length}
 use Rattle.listing.specs.Progress.{steps_left, Paged}

@@ -1,3 +1,4 @@
+-- Before each section: the state mirrors the history (`Along`), and the verdict from here on is the whole verdict; the place comes nearer to the end.
 use Rattle.walks.proofs.Along.{Along}
 use Rattle.walks.specs.Formats.{own_of}
 use Prim.Native.Nat.{◌-◌}
