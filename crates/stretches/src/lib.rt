@@ -89,7 +89,8 @@ fn list_by(
         };
         at = next;
         let kind = kinds[level as usize];
-        if kind != held {
+        let other = kind != held;
+        if other {
             if must_list(nb, from, ray, first, bin) {
                 if cap <= count {
                     return Listing {

@@ -7,6 +7,7 @@ use native.Mathlib.Omega.{arith}
 use lib.ListN.{length}
 use lib.Seq.{take_all}
 use borrow.Author.Tests.{lt-ltb, le-ltb, le-leb}
+use Prim.Native.Nat.{◌≤◌}
 use Rattle.runs.specs.Run.{levels, gives, fault_at}
 use Rattle.lent.specs.Lent.{front}
 use Rattle.bare.specs.Read.{read_answer}
@@ -26,7 +27,7 @@ returns-then-n-gt2097152 c = record { answered = simp (lt-ltb _ _ c.if-n-gt20971
 
 pub returns-then-out-n : goal.returns-then-out-n
 unfolding read_answer
-returns-then-out-n c = record { answered = simp (lt-ltb _ _ c.if-out-n.true, le-ltb _ _ c.if-n-gt2097152.false, le-ltb _ _ c.if-v-gt253.false); held = refl }
+returns-then-out-n c = let few : c.args.n ≤ 2097152 = omega arith in record { answered = simp (lt-ltb _ _ c.if-out-n.true, le-ltb _ _ few, le-ltb _ _ c.if-v-gt253.false); held = refl }
 
 pub returns-in-Off : goal.returns-in-Off
 unfolding read_answer

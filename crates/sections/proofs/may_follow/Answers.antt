@@ -8,9 +8,9 @@ use borrow.Author.Tests.{ne_eqb}
 use Rattle.sections.specs.Checks.{follows}
 use Rattle.sections.proofs.may_follow.Goals as goal
 
-past-seven : (p n : ℕ) → 7 < p → false ≡ follows p n
+past_seven : (p n : ℕ) → 7 < p → false ≡ follows p n
 unfolding follows
-past-seven p n h =
+past_seven p n h =
     simp (ne_eqb p 0 (λ e. omega arith), ne_eqb p 1 (λ e. omega arith), ne_eqb p 3 (λ e. omega arith), ne_eqb p 4 (λ e. omega arith), ne_eqb p 5 (λ e. omega arith), ne_eqb p 6 (λ e. omega arith), ne_eqb p 7 (λ e. omega arith))
 
 other : (p n : ℕ) → (p ≡ 7 → ⊥) → (p ≡ 1 → ⊥) → p ≤ 7 → not (eqb p 2) && eqb n (p + 1) ≡ follows p n
@@ -33,7 +33,7 @@ unfolding follows
 returns-then-p-eq1 c = rw c.if-p-eq1.true (simp or-false)
 
 pub returns-then-p-gt7 : goal.returns-then-p-gt7
-returns-then-p-gt7 c = past-seven c.args.p c.args.n c.if-p-gt7.true
+returns-then-p-gt7 c = past_seven c.args.p c.args.n c.if-p-gt7.true
 
 pub returns : goal.returns
 returns c = other c.args.p c.args.n c.if-p-eq7.false c.if-p-eq1.false c.if-p-gt7.false

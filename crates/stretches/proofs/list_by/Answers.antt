@@ -14,7 +14,7 @@ use Rattle.stretches.specs.Inner.{kind_by_table}
 use Rattle.stretches.specs.Call.{stretches_from}
 use Rattle.stretches.proofs.Going.{next_ray_lem, promised, told, same_size, Going, going_start, ray_le, run_inside, run_fits, changing, going_changed, going_on, ending, going_ended, due, due_start, ended, passed, wrote, stuck}
 use Rattle.stretches.proofs.list_by.Goals as goal
-use Rattle.stretches.proofs.list_by.Goals.{then-kind-held+then-must_list+else-cap-count, then-kind-held+else-must_list, else-kind-held, then-must_list-2+else-cap-count-2, else-must_list-2}
+use Rattle.stretches.proofs.list_by.Goals.{then-other+then-must_list+else-cap-count, then-other+else-must_list, else-other, then-must_list-2+else-cap-count-2, else-must_list-2}
 
 -- the cut's bins are few
 few : (nb nr : ℕ) → nr ≤ 1024 → nb ≤ 2048 → nr * nb ≤ 2097152
@@ -60,7 +60,7 @@ returns-then-cap-count c =
     let i = c.loop-level.invariant in
     let r = run c.args.v c.args.nr c.args.octets.now c.loop-level.at c.loop-level.ray (sym c.in-Run.is ∙ c.known_run-step.ensures) in
     let kind_is : get_or c.args.kinds.now c.in-Run.level 0 ≡ get_or c.args.kinds.now (get_or c.args.octets.now c.loop-level.at 0) 0 = ap (λ (l : ℕ). get_or c.args.kinds.now l 0) r.1 in
-    let end = told _ (i.2 ∙ stuck _ _ _ _ _ _ _ (changing _ _ _ _ _ whole i.0 i.1 r.0 (λ e. c.if-kind-held.true (kind_is ∙ e))) c.must_list.ensures c.if-must_list.true _ _ c.if-cap-count.true) in
+    let end = told _ (i.2 ∙ stuck _ _ _ _ _ _ _ (changing _ _ _ _ _ whole i.0 i.1 r.0 (λ e. c.if-other.true (kind_is ∙ e))) c.must_list.ensures c.if-must_list.true _ _ c.if-cap-count.true) in
     record { value = end.0; out_after = end.1 }
 
 pub overflow_sub-bin : goal.overflow_sub-bin
@@ -89,13 +89,13 @@ loop-bin-init c =
     let sc = kind_by_table c.args.kinds.now in
     let kind_is : get_or c.args.kinds.now c.in-Run.level 0 ≡ get_or c.args.kinds.now (get_or c.args.octets.now c.loop-level.at 0) 0 = ap (λ (l : ℕ). get_or c.args.kinds.now l 0) r.1 in
     let other : (get_or c.args.kinds.now c.in-Run.level 0 ≡ c.loop-level.held → ⊥) → get_or c.args.kinds.now (get_or c.args.octets.now c.loop-level.at 0) 0 ≡ c.loop-level.held → ⊥ = λ n e. n (kind_is ∙ e) in
-    let turned : Going sc c.args.v c.args.nb c.args.nr c.args.octets.now c.loop-level.at c.loop-level.ray c.loop-level.bin c.if-kind-held.first c.if-kind-held.held
-    × (get_or c.args.kinds.now (get_or c.args.octets.now c.loop-level.at 0) 0 ≡ c.if-kind-held.held)
+    let turned : Going sc c.args.v c.args.nb c.args.nr c.args.octets.now c.loop-level.at c.loop-level.ray c.loop-level.bin c.if-other.first c.if-other.held
+    × (get_or c.args.kinds.now (get_or c.args.octets.now c.loop-level.at 0) 0 ≡ c.if-other.held)
     × (promised c.args.nr c.args.out.now (stretches_from sc c.args.v c.args.octets.now c.args.nb c.args.nr c.args.from)
-    ≡ due sc c.args.v c.args.nb c.args.nr c.args.octets.now c.args.from (length c.args.out.now / per_entry) c.if-kind-held.out c.if-kind-held.count c.loop-level.ray c.if-kind-held.first) = elim c.if-kind-held.branch [
-      | then-kind-held+then-must_list+else-cap-count w ↦ rw (w.out-is, w.first-is, w.held-is, w.count-is, kind_is) (going_changed _ _ _ _ _ whole i.0 i.1 r.0 (other w.if-kind-held.true), refl, i.2 ∙ wrote _ _ _ _ _ _ _ (changing _ _ _ _ _ whole i.0 i.1 r.0 (other w.if-kind-held.true)) w.must_list.ensures w.if-must_list.true _ _ _ w.if-cap-count.false w.put.ensures)
-      | then-kind-held+else-must_list w ↦ rw (w.out-is, w.first-is, w.held-is, w.count-is, kind_is) (going_changed _ _ _ _ _ whole i.0 i.1 r.0 (other w.if-kind-held.true), refl, i.2 ∙ passed _ _ _ _ _ _ _ (changing _ _ _ _ _ whole i.0 i.1 r.0 (other w.if-kind-held.true)) w.must_list.ensures w.if-must_list.false _ _)
-      | else-kind-held w ↦ rw (w.out-is, w.first-is, w.held-is, w.count-is) (i.0, sym kind_is ∙ w.if-kind-held.false, i.2)
+    ≡ due sc c.args.v c.args.nb c.args.nr c.args.octets.now c.args.from (length c.args.out.now / per_entry) c.if-other.out c.if-other.count c.loop-level.ray c.if-other.first) = elim c.if-other.branch [
+      | then-other+then-must_list+else-cap-count w ↦ rw (w.out-is, w.first-is, w.held-is, w.count-is, kind_is) (going_changed _ _ _ _ _ whole i.0 i.1 r.0 (other w.if-other.true), refl, i.2 ∙ wrote _ _ _ _ _ _ _ (changing _ _ _ _ _ whole i.0 i.1 r.0 (other w.if-other.true)) w.must_list.ensures w.if-must_list.true _ _ _ w.if-cap-count.false w.put.ensures)
+      | then-other+else-must_list w ↦ rw (w.out-is, w.first-is, w.held-is, w.count-is, kind_is) (going_changed _ _ _ _ _ whole i.0 i.1 r.0 (other w.if-other.true), refl, i.2 ∙ passed _ _ _ _ _ _ _ (changing _ _ _ _ _ whole i.0 i.1 r.0 (other w.if-other.true)) w.must_list.ensures w.if-must_list.false _ _)
+      | else-other w ↦ rw (w.out-is, w.first-is, w.held-is, w.count-is) (i.0, sym kind_is ∙ w.if-other.false, i.2)
     ] in
     (going_on _ _ _ _ _ whole turned.0 i.1 r.0 turned.1 _ _ r.2 r.3, turned.2)
 

@@ -35,10 +35,6 @@ opens octets v e rest sum low =
 pub loop-e-init : goal.loop-e-init
 loop-e-init c = (omega arith, c.requires.1, c.requires.3, c.requires.4)
 
--- the digit in hand is an octet
-pub overflow_cast-rest : goal.overflow_cast-rest
-overflow_cast-rest c = omega (arith, c.slice_known-1.given c.loop-e.e)
-
 pub overflow_sub-rest : goal.overflow_sub-rest
 overflow_sub-rest c = omega (arith, here c.args.octets.now c.loop-e.row c.args.v c.loop-e.e c.loop-e.rest c.loop-e.invariant.2 c.loop-e-test.true (c.loop-e.invariant.3.0 c.loop-e.e (omega arith)))
 
