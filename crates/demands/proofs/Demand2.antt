@@ -10,7 +10,6 @@ use lib.ListN.{length, get_or, take}
 use lib.IntN.{ℤ, pos}
 use Rattle.fraction.specs.Near.{NearZ}
 use Rattle.fraction.specs.Quotient.{hundredths}
-use Rattle.runs.specs.Run.{levels}
 use Rattle.runs.specs.Runs.{Decodes}
 use Rattle.lent.specs.Lent.{front}
 use Rattle.bare.specs.Read.{ReadPromise}

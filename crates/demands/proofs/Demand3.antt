@@ -2,7 +2,7 @@
 -- exactly once, by ray and then by first bin, and nothing else; the kinds are those of demand 2's bins. Fetched in portions from the first bin, with
 -- room for an entry each time and each next point handed back, the portions joined are that list, the fetching can always go on, and it ends.
 -- The idea: a call hands over the front of the list from its point, and the list from the next point is what it left.
-use Prim.Native.Nat.{ℕ, suc, ◌+◌, ◌-◌, ◌*◌, ◌/◌, ◌≤◌, ◌<◌}
+use Prim.Native.Nat.{ℕ, suc, ◌-◌, ◌*◌, ◌/◌, ◌≤◌, ◌<◌}
 use mathlib.Core.Path.{◌≡◌, refl, sym, ◌∙◌, ap, subst}
 use mathlib.Core.List.{List, [], ◌∷◌, ◌++◌, append_assoc, append-nil}
 use mathlib.Core.Bool.{Bool, true, false, ◌&&◌}

@@ -1,12 +1,11 @@
 -- FORMAT.md, "Rays by a record": "With the record that building made for that file, cut and ray, it provably equals the plain call". Of an accepted file both calls go by the same cut; the
 -- record that building made fits its data, and decoding from there gives the ray's bins. A ray past the last one both refuse, whatever the record.
-use Prim.Native.Nat.{ℕ, ◌*◌, ◌≤◌, ◌<◌, min}
+use Prim.Native.Nat.{ℕ, ◌<◌, min}
 use mathlib.Core.Path.{◌≡◌, refl, sym, ap, ◌∙◌}
 use mathlib.Core.List.{List}
-use mathlib.Core.Bool.{Bool, true, false, cond}
+use mathlib.Core.Bool.{true}
 use native.Mathlib.Omega.{arith}
-use borrow.Author.Tests.{lt-ltb, le-ltb, ltb-false}
-use lib.Dec.{ltb}
+use borrow.Author.Tests.{lt-ltb, le-ltb}
 use lib.IntN.{ℤ}
 use lib.ListN.{length, get_or, drop, get_or-append}
 use Rattle.lent.specs.Lent.{front}
@@ -20,8 +19,8 @@ use Rattle.sections.specs.declared.Cut.{Cut}
 use Rattle.base_format.specs.Parts.{data_at, greatest_in, product_in}
 use Rattle.base_format.specs.Good.{GoodCut}
 use Rattle.base_format.specs.Checks.{base_checks}
-use Rattle.base_format.specs.Accepted.{base_format, Accepted}
-use Rattle.base_format.specs.Verdict.{verdict, any_data_verdict}
+use Rattle.base_format.specs.Accepted.{base_format}
+use Rattle.base_format.specs.Verdict.{verdict}
 use Rattle.base_format.proofs.Exact.{exact}
 use Rattle.base_format.proofs.GoodCuts.{good_accepted}
 use Rattle.base_format.proofs.AnyData.{any_same}
@@ -32,7 +31,7 @@ use Rattle.calls.specs.Cuts.{on_cut, cut_at, cut_in, cut_any_data, if_written}
 use Rattle.calls.specs.declared.RayAnswer.{RayAnswer}
 use Rattle.calls.specs.declared.RayAnswer.TheVariants.{Written, Refused}
 use Rattle.sections.specs.Refusal.{refuse}
-use Rattle.sections.specs.declared.Why.TheVariants.{Argument, Room}
+use Rattle.sections.specs.declared.Why.TheVariants.{Argument}
 use Rattle.polar.specs.Rays.{ray_on, ray_answer, levels_after, marks_after, values_after}
 use Rattle.records.specs.Records.{from_on, from_answer, levels_from, marks_from, values_from, build_on, build_answer, row_after}
 use Rattle.calls.proofs.ByVerdict.{by_verdict}

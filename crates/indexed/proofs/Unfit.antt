@@ -1,12 +1,11 @@
 -- A record is not usable exactly where one of the four reasons holds: the tests are taken apart in their order.
 use Prim.Native.Nat.{ℕ, ◌+◌, ◌≤◌, ◌<◌}
 use mathlib.Core.Path.{◌≡◌, sym, ◌∙◌}
-use mathlib.Core.Bool.{true, false}
+use mathlib.Core.Bool.{false}
 use mathlib.Core.List.{List}
 use native.Mathlib.Omega.{arith}
 use lib.ListN.{length, drop, get_or}
-use lib.Dec.{leb}
-use borrow.Author.Tests.{lt-leb, le-leb, leb-true}
+use borrow.Author.Tests.{lt-leb, le-leb}
 use Rattle.runs.specs.Run.{levels, run_len}
 use Rattle.octets.proofs.Orders.{by_order}
 use Rattle.index.specs.declared.RayRecord.{RayRecord}

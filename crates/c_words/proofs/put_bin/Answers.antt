@@ -1,5 +1,4 @@
 -- By the cases of the answer; a refusal writes nothing.
-use mathlib.Core.Path.{refl}
 use Rattle.c_words.proofs.put_bin.Goals as goal
 
 pub word_of-requires : goal.word_of-requires

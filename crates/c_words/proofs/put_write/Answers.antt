@@ -1,5 +1,4 @@
 -- By the cases of the answer; a refusal writes nothing.
-use mathlib.Core.Path.{refl}
 use Rattle.c_words.proofs.put_write.Goals as goal
 
 pub returns-in-Wrote : goal.returns-in-Wrote
