@@ -1,5 +1,5 @@
 -- Both loops keep where reading stands (`Going`), and what the call ends with from there on (`due`): each step is one law of Going.antt.
-use mathlib.Core.Path.{◌≡◌, refl, sym, ap, ◌∙◌}
+use mathlib.Core.Path.{◌≡◌, sym, ap, ◌∙◌}
 use mathlib.Core.List.{List}
 use Prim.Native.Nat.{ℕ, ◌-◌, ◌*◌, ◌/◌, ◌≤◌, ◌<◌}
 use native.Mathlib.Omega.{arith}
@@ -89,12 +89,14 @@ loop-bin-init c =
     let sc = kind_by_table c.args.kinds.now in
     let kind_is : get_or c.args.kinds.now c.in-Run.level 0 ≡ get_or c.args.kinds.now (get_or c.args.octets.now c.loop-level.at 0) 0 = ap (λ (l : ℕ). get_or c.args.kinds.now l 0) r.1 in
     let other : (get_or c.args.kinds.now c.in-Run.level 0 ≡ c.loop-level.held → ⊥) → get_or c.args.kinds.now (get_or c.args.octets.now c.loop-level.at 0) 0 ≡ c.loop-level.held → ⊥ = λ n e. n (kind_is ∙ e) in
+    -- the kind of the run is in hand, as the code found it
+    let turned_to : (get_or c.args.kinds.now c.in-Run.level 0 ≡ c.loop-level.held → ⊥) → Going sc c.args.v c.args.nb c.args.nr c.args.octets.now c.loop-level.at c.loop-level.ray c.loop-level.bin c.loop-level.bin (get_or c.args.kinds.now c.in-Run.level 0) = λ n. rw kind_is (going_changed _ _ _ _ _ whole i.0 i.1 r.0 (other n)) in
     let turned : Going sc c.args.v c.args.nb c.args.nr c.args.octets.now c.loop-level.at c.loop-level.ray c.loop-level.bin c.if-other.first c.if-other.held
     × (get_or c.args.kinds.now (get_or c.args.octets.now c.loop-level.at 0) 0 ≡ c.if-other.held)
     × (promised c.args.nr c.args.out.now (stretches_from sc c.args.v c.args.octets.now c.args.nb c.args.nr c.args.from)
     ≡ due sc c.args.v c.args.nb c.args.nr c.args.octets.now c.args.from (length c.args.out.now / per_entry) c.if-other.out c.if-other.count c.loop-level.ray c.if-other.first) = elim c.if-other.branch [
-      | then-other+then-must_list+else-cap-count w ↦ rw (w.out-is, w.first-is, w.held-is, w.count-is, kind_is) (going_changed _ _ _ _ _ whole i.0 i.1 r.0 (other w.if-other.true), refl, i.2 ∙ wrote _ _ _ _ _ _ _ (changing _ _ _ _ _ whole i.0 i.1 r.0 (other w.if-other.true)) w.must_list.ensures w.if-must_list.true _ _ _ w.if-cap-count.false w.put.ensures)
-      | then-other+else-must_list w ↦ rw (w.out-is, w.first-is, w.held-is, w.count-is, kind_is) (going_changed _ _ _ _ _ whole i.0 i.1 r.0 (other w.if-other.true), refl, i.2 ∙ passed _ _ _ _ _ _ _ (changing _ _ _ _ _ whole i.0 i.1 r.0 (other w.if-other.true)) w.must_list.ensures w.if-must_list.false _ _)
+      | then-other+then-must_list+else-cap-count w ↦ rw (w.out-is, w.first-is, w.held-is, w.count-is) (turned_to w.if-other.true, sym kind_is, i.2 ∙ wrote _ _ _ _ _ _ _ (changing _ _ _ _ _ whole i.0 i.1 r.0 (other w.if-other.true)) w.must_list.ensures w.if-must_list.true _ _ _ w.if-cap-count.false w.put.ensures)
+      | then-other+else-must_list w ↦ rw (w.out-is, w.first-is, w.held-is, w.count-is) (turned_to w.if-other.true, sym kind_is, i.2 ∙ passed _ _ _ _ _ _ _ (changing _ _ _ _ _ whole i.0 i.1 r.0 (other w.if-other.true)) w.must_list.ensures w.if-must_list.false _ _)
       | else-other w ↦ rw (w.out-is, w.first-is, w.held-is, w.count-is) (i.0, sym kind_is ∙ w.if-other.false, i.2)
     ] in
     (going_on _ _ _ _ _ whole turned.0 i.1 r.0 turned.1 _ _ r.2 r.3, turned.2)
