@@ -9,8 +9,6 @@ use Rattle.octets.proofs.Orders.{by_order}
 use Rattle.runs.specs.Runs.{Decodes, Exactly}
 use Rattle.lent.specs.Lent.{front}
 use Rattle.bare.specs.Read.{ReadPromise}
-use Rattle.bare.specs.declared.RunRead.{RunRead}
-use Rattle.bare.specs.declared.RunRead.TheVariants as R
 use Rattle.runs.proofs.Meaning.{gives_exactly, levels_decode}
 use Rattle.runs.proofs.Fault.{fault_given}
 use Rattle.bare.proofs.Read.{read_levels}
@@ -21,24 +19,24 @@ use Rattle.packing.specs.Write.{greatest, written, packed}
 use Rattle.bare.specs.Write.{write_out, WritePromise}
 use Rattle.bare.specs.declared.WriteRefusal.{WriteRefusal}
 use Rattle.bare.specs.declared.WriteRefusal.TheVariants.{Argument}
-use Rattle.bare.specs.declared.RunWrite.{RunWrite}
-use Rattle.bare.specs.declared.RunWrite.TheVariants.{Wrote, Refused}
 use Rattle.packing.proofs.ReadBack.{written_levels, written_opens, written_gives}
+use Rattle.bare.specs.declared.Wrote.{Wrote}
+use Rattle.std.specs.Prelude.{Err, Ok, Result, ⊤}
 
-module _ {s d out : List ℕ} {answer : RunWrite} (p : WritePromise s d answer out) where
+module _ {s d out : List ℕ} {answer : Result Wrote WriteRefusal} (p : WritePromise s d answer out) where
   -- where it writes, the octets stand in front, and past them nothing has changed
-  pub write_octets : {v n : ℕ} → answer ≡ Wrote v n → out ≡ front (packed s) d
-  write_octets e = p.held ∙ ap (λ (r : RunWrite). write_out r (packed s) d) e
+  pub write_octets : {v n : ℕ} → answer ≡ Ok (record { v = v; len = n }) → out ≡ front (packed s) d
+  write_octets e = p.held ∙ ap (λ (r : Result Wrote WriteRefusal). write_out r (packed s) d) e
 
   -- a refusal changes nothing
-  pub write_refused : (why : WriteRefusal) → answer ≡ Refused why → out ≡ d
-  write_refused why e = p.held ∙ ap (λ (r : RunWrite). write_out r (packed s) d) e
+  pub write_refused : (why : WriteRefusal) → answer ≡ Err why → out ≡ d
+  write_refused why e = p.held ∙ ap (λ (r : Result Wrote WriteRefusal). write_out r (packed s) d) e
 
 -- two outcomes that the promise allows are equal
-pub write_one : {s d out out' : List ℕ} {r r' : RunWrite} → WritePromise s d r out → WritePromise s d r' out' → (r ≡ r') × (out ≡ out')
+pub write_one : {s d out out' : List ℕ} {r r' : Result Wrote WriteRefusal} → WritePromise s d r out → WritePromise s d r' out' → (r ≡ r') × (out ≡ out')
 write_one {s} {d} p q =
     let same = p.answered ∙ sym q.answered in
-    (same, p.held ∙ ap (λ (r : RunWrite). write_out r (packed s) d) same ∙ sym q.held)
+    (same, p.held ∙ ap (λ (r : Result Wrote WriteRefusal). write_out r (packed s) d) same ∙ sym q.held)
 
 no_reason : {v n room : ℕ} {s : List ℕ} → v ≤ 253 → n ≤ 2097152 → n ≤ room → Exactly v n s → (q : ReadRefusal) → ReadReason v n room s q → ⊥
 no_reason low few fits exact q (ReadReason.by_v a) = omega arith
@@ -54,12 +52,13 @@ pub record Written (s out : List ℕ) (v n : ℕ) : Type 0 where
   pub long : n ≡ length (written v s)
   pub octets : take n out ≡ written v s
 
-pub wrote : {s d out : List ℕ} {v n : ℕ} → WritePromise s d (Wrote v n) out → Written s out v n
+pub wrote : {s d out : List ℕ} {v n : ℕ} → WritePromise s d (Ok (record { v = v; len = n })) out → Written s out v n
 wrote {s} {d} {out} {v} {n} w =
     let told = write_tells s d out v n w in
-    let top : v ≡ greatest s = cc told in
-    let long : n ≡ length (packed s) = cc told in
-    let none = (write_answered s d out (Wrote v n) w).0 told in
+    let same : ◌≡◌ {A = Wrote} (record { v = v; len = n }) (record { v = greatest s; len = length (packed s) }) = cc told in
+    let top : v ≡ greatest s = λ i. (same i).v in
+    let long : n ≡ length (packed s) = λ i. (same i).len in
+    let none = (write_answered s d out (Ok (record { v = v; len = n })) w).0 told in
     record {
       few = by_order (length s) 2097152 (λ h. h) (λ h. absurd (none Argument (by_count h)));
       low = by_order v 252 (λ h. h) (λ h. absurd (none Argument (by_level (rw top at h))));
@@ -70,8 +69,8 @@ wrote {s} {d} {out} {v} {n} w =
 
 -- Demand 2: the octets that run write wrote, given to run read with the V it answered and room for the levels, are read, and what then stands in
 -- front of the lent levels is the row that was written
-pub read_back : {s d out : List ℕ} {v n : ℕ} → WritePromise s d (Wrote v n) out →
-    {d' out' : List ℕ} {answer : RunRead} → length s ≤ length d' → ReadPromise v (length s) (take n out) d' answer out' → (answer ≡ R.Read) × (out' ≡ front s d')
+pub read_back : {s d out : List ℕ} {v n : ℕ} → WritePromise s d (Ok (record { v = v; len = n })) out →
+    {d' out' : List ℕ} {answer : Result ⊤ ReadRefusal} → length s ≤ length d' → ReadPromise v (length s) (take n out) d' answer out' → (answer ≡ (Ok tt)) × (out' ≡ front s d')
 read_back {s} {d} {out} {v} {n} w {d'} {out'} {answer} room p =
     let k = wrote w in
     let exact : Exactly v (length s) (take n out) = rw k.octets (gives_exactly v (length s) (written v s) (written_gives v k.low s k.top)) in

@@ -1,31 +1,27 @@
 -- FORMAT.md, "Calls" and "Refusals": what run read and run check answer, and what the lent levels then hold.
-use Rattle.std.specs.Prelude.{ℕ, ◌≡◌, List, cond, length, ltb}
+use Rattle.std.specs.Prelude.{ℕ, ◌≡◌, List, cond, length, ltb, Err, Ok, Result, ⊤}
 use Rattle.runs.specs.Run.{levels, gives, fault_at}
 use Rattle.lent.specs.Lent.{front}
 use Rattle.bare.specs.declared.ReadRefusal.{ReadRefusal}
 use Rattle.bare.specs.declared.ReadRefusal.TheVariants as F
-use Rattle.bare.specs.declared.RunRead.{RunRead}
-use Rattle.bare.specs.declared.RunRead.TheVariants.{Read, Refused}
 use Rattle.bare.specs.declared.CheckRefusal.{CheckRefusal}
 use Rattle.bare.specs.declared.CheckRefusal.TheVariants as C
-use Rattle.bare.specs.declared.RunCheck.{RunCheck}
-use Rattle.bare.specs.declared.RunCheck.TheVariants as K
 
 -- "n levels at the front of a lent buffer"; "Run read: 12, 10, 11, 8"
-unfoldable pub read_answer : ℕ → ℕ → ℕ → List ℕ → RunRead
+unfoldable pub read_answer : ℕ → ℕ → ℕ → List ℕ → Result ⊤ ReadRefusal
 read_answer v n room s =
-    cond (ltb 253 v) (Refused F.V)
-    (cond (ltb 2097152 n) (Refused F.Argument)
-    (cond (ltb room n) (Refused F.Room)
-    (cond (gives v n s) Read (Refused (F.Data (fault_at v n s))))))
+    cond (ltb 253 v) (Err F.V)
+    (cond (ltb 2097152 n) (Err F.Argument)
+    (cond (ltb room n) (Err F.Room)
+    (cond (gives v n s) (Ok tt) (Err (F.Data (fault_at v n s))))))
 
 -- the lent levels d after it, p what the octets give: a refusal "changes no lent memory"
-abbrev pub read_out : RunRead → List ℕ → List ℕ → List ℕ
-read_out Read p d = front p d
-read_out (Refused why) p d = d
+abbrev pub read_out : Result ⊤ ReadRefusal → List ℕ → List ℕ → List ℕ
+read_out (Ok tt) p d = front p d
+read_out (Err why) p d = d
 
 -- the promise of run read, s the octets and d the lent levels before it: the answer, and the lent levels after it
-pub record ReadPromise (v n : ℕ) (s d : List ℕ) (answer : RunRead) (out : List ℕ) : Type 0 where
+pub record ReadPromise (v n : ℕ) (s d : List ℕ) (answer : Result ⊤ ReadRefusal) (out : List ℕ) : Type 0 where
   pub answered : answer ≡ read_answer v n (length d) s
   pub held : out ≡ read_out answer (levels v s) d
 
@@ -43,14 +39,14 @@ read_place F.Room = 0
 read_place (F.Data at) = at
 
 -- run check: what run read would find, with nothing lent: 12, 10, 8
-unfoldable pub check_answer : ℕ → ℕ → List ℕ → RunCheck
+unfoldable pub check_answer : ℕ → ℕ → List ℕ → Result ⊤ CheckRefusal
 check_answer v n s =
-    cond (ltb 253 v) (K.Refused C.V)
-    (cond (ltb 2097152 n) (K.Refused C.Argument)
-    (cond (gives v n s) K.Gives (K.Refused (C.Data (fault_at v n s)))))
+    cond (ltb 253 v) (Err C.V)
+    (cond (ltb 2097152 n) (Err C.Argument)
+    (cond (gives v n s) (Ok tt) (Err (C.Data (fault_at v n s)))))
 
 -- the promise of run check
-pub record CheckPromise (v n : ℕ) (s : List ℕ) (answer : RunCheck) : Type 0 where
+pub record CheckPromise (v n : ℕ) (s : List ℕ) (answer : Result ⊤ CheckRefusal) : Type 0 where
   pub answered : answer ≡ check_answer v n s
 
 abbrev pub check_number : CheckRefusal → ℕ

@@ -1,27 +1,26 @@
 -- FORMAT.md, "Calls" and "Refusals": what run write answers, and what the lent octets then hold.
-use Rattle.std.specs.Prelude.{ℕ, ◌≡◌, List, cond, length, ltb}
+use Rattle.std.specs.Prelude.{ℕ, ◌≡◌, List, cond, length, ltb, Err, Ok, Result}
 use Rattle.lent.specs.Lent.{front}
 use Rattle.packing.specs.Write.{greatest, packed}
 use Rattle.bare.specs.declared.WriteRefusal.{WriteRefusal}
 use Rattle.bare.specs.declared.WriteRefusal.TheVariants.{Argument, Room}
-use Rattle.bare.specs.declared.RunWrite.{RunWrite}
-use Rattle.bare.specs.declared.RunWrite.TheVariants.{Wrote, Refused}
+use Rattle.bare.specs.declared.Wrote.{Wrote}
 
 -- "octets at the front of a lent buffer; answers V and their number"; "Run write: 10, 11"
-unfoldable pub write_answer : ℕ → List ℕ → RunWrite
+unfoldable pub write_answer : ℕ → List ℕ → Result Wrote WriteRefusal
 write_answer room s =
-    cond (ltb 2097152 (length s)) (Refused Argument)
-    (cond (ltb 252 (greatest s)) (Refused Argument)
-    (cond (ltb room (length (packed s))) (Refused Room)
-    (Wrote (greatest s) (length (packed s)))))
+    cond (ltb 2097152 (length s)) (Err Argument)
+    (cond (ltb 252 (greatest s)) (Err Argument)
+    (cond (ltb room (length (packed s))) (Err Room)
+    (Ok (record { v = greatest s; len = length (packed s) }))))
 
 -- the lent octets d after it, p what it writes: a refusal "changes no lent memory"
-abbrev pub write_out : RunWrite → List ℕ → List ℕ → List ℕ
-write_out (Wrote v n) p d = front p d
-write_out (Refused why) p d = d
+abbrev pub write_out : Result Wrote WriteRefusal → List ℕ → List ℕ → List ℕ
+write_out (Ok wrote) p d = front p d
+write_out (Err why) p d = d
 
 -- the promise of run write, s the levels and d the lent octets before it: the answer, and the lent octets after it
-pub record WritePromise (s d : List ℕ) (answer : RunWrite) (out : List ℕ) : Type 0 where
+pub record WritePromise (s d : List ℕ) (answer : Result Wrote WriteRefusal) (out : List ℕ) : Type 0 where
   pub answered : answer ≡ write_answer (length d) s
   pub held : out ≡ write_out answer (packed s) d
 

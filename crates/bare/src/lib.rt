@@ -4,14 +4,11 @@
 
 ghost use Rattle.std.specs.Prelude.{◌≡◌};
 ghost use Rattle.bare.specs.Read.{ReadPromise, CheckPromise};
-ghost use Rattle.bare.specs.Inner.{by_scan};
 ghost use Rattle.bare.specs.Write.{WritePromise};
-
-use scan::Scan;
 
 // Why run read refuses, a case for each of its numbers in FORMAT.md, "Refusals": 12, 10, 11, 8.
 // The last has the offset of the octet at fault, which is the refusal's place.
-#[derive(Clone, Copy)]
+#[derive(Clone, Copy, Debug, PartialEq, Eq)]
 pub enum ReadRefusal {
     V,
     Argument,
@@ -19,103 +16,76 @@ pub enum ReadRefusal {
     Data(usize),
 }
 
-// What run read answers: the levels are written, or a refusal.
-#[derive(Clone, Copy)]
-pub enum RunRead {
-    Read,
-    Refused(ReadRefusal),
-}
-
 // Run read: the n levels that the octets give under V, at the front of out.
-pub fn run_read(octets: &[u8], v: u8, n: usize, out: &mut [u8]) -> RunRead
+pub fn run_read(octets: &[u8], v: u8, n: usize, out: &mut [u8]) -> Result<(), ReadRefusal>
     ensures { ReadPromise v n octets.now out.old result out.new }
 {
     if 253 < v {
-        return RunRead::Refused(ReadRefusal::V);
+        return Err(ReadRefusal::V);
     }
     if 2097152 < n { // 10 comes before 11
-        return RunRead::Refused(ReadRefusal::Argument);
+        return Err(ReadRefusal::Argument);
     }
     if out.len() < n {
-        return RunRead::Refused(ReadRefusal::Room);
+        return Err(ReadRefusal::Room);
     }
-    let found = scan::scan_runs(octets, v, n);
-    if let Scan::Off(at) = found {
-        return RunRead::Refused(ReadRefusal::Data(at));
-    }
+    scan::scan_runs(octets, v, n).map_err(ReadRefusal::Data)?;
     runs::levels_upto(octets, v, 0, n, out);
-    RunRead::Read
+    Ok(())
 }
 
 // Why run check refuses: 12, 10, 8, the last with the offset of the octet at fault.
-#[derive(Clone, Copy)]
+#[derive(Clone, Copy, Debug, PartialEq, Eq)]
 pub enum CheckRefusal {
     V,
     Argument,
     Data(usize),
 }
 
-// What run check answers.
-#[derive(Clone, Copy)]
-pub enum RunCheck {
-    Gives,
-    Refused(CheckRefusal),
-}
-
-// The answer by what a scan found.
-fn by_scan(found: Scan) -> RunCheck
-    ensures { result ≡ by_scan found }
-{
-    match found {
-        Scan::Exact => RunCheck::Gives,
-        Scan::Off(at) => RunCheck::Refused(CheckRefusal::Data(at)),
-    }
-}
-
 // Run check: whether octets give exactly n bins under V, as run read would find, with nothing lent.
-pub fn run_check(octets: &[u8], v: u8, n: usize) -> RunCheck
+pub fn run_check(octets: &[u8], v: u8, n: usize) -> Result<(), CheckRefusal>
     ensures { CheckPromise v n octets.now result }
 {
     if 253 < v {
-        return RunCheck::Refused(CheckRefusal::V);
+        return Err(CheckRefusal::V);
     }
     if 2097152 < n {
-        return RunCheck::Refused(CheckRefusal::Argument);
+        return Err(CheckRefusal::Argument);
     }
     if octets.len() < sums::BLOCK { // a few octets go straight to the loop, which spares them a call
-        return by_scan(scan::by_runs(octets, v, n));
+        return scan::by_runs(octets, v, n).map_err(CheckRefusal::Data);
     }
-    by_scan(scan::scan_runs(octets, v, n))
+    scan::scan_runs(octets, v, n).map_err(CheckRefusal::Data)
 }
 
 // Why run write refuses, a case for each of its numbers in FORMAT.md, "Refusals": 10 (too many levels, or a level over 252) and 11.
-#[derive(Clone, Copy)]
+#[derive(Clone, Copy, Debug, PartialEq, Eq)]
 pub enum WriteRefusal {
     Argument,
     Room,
 }
 
-// What run write answers: V and the number of octets, or a refusal.
-#[derive(Clone, Copy)]
-pub enum RunWrite {
-    Wrote { v: u8, len: usize },
-    Refused(WriteRefusal),
+// What run write wrote: V, and the number of octets.
+#[derive(Clone, Copy, Debug, PartialEq, Eq)]
+pub struct Wrote {
+    pub v: u8,
+    pub len: usize,
 }
 
 // Run write: the octets for the levels, at the front of out.
-pub fn run_write(levels: &[u8], out: &mut [u8]) -> RunWrite
+pub fn run_write(levels: &[u8], out: &mut [u8]) -> Result<Wrote, WriteRefusal>
     ensures { WritePromise levels.now out.old result out.new }
 {
     if 2097152 < levels.len() {
-        return RunWrite::Refused(WriteRefusal::Argument);
+        return Err(WriteRefusal::Argument);
     }
     let v = packing::greatest_of(levels);
     if 252 < v {
-        return RunWrite::Refused(WriteRefusal::Argument);
+        return Err(WriteRefusal::Argument);
     }
     if !packing::has_room(levels, v, out.len()) {
-        return RunWrite::Refused(WriteRefusal::Room);
+        return Err(WriteRefusal::Room);
     }
     let len = packing::put_all(levels, v, out);
-    RunWrite::Wrote { v, len }
+    Ok(Wrote { v, len })
 }

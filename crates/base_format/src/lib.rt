@@ -15,15 +15,8 @@ ghost use Rattle.base_format.specs.Fields.{site_at, greatest_at, count_at};
 ghost use Rattle.base_format.specs.Parts.{product_of, product_number, table_at, product_in};
 ghost use Rattle.base_format.specs.Checks.{checks3, checks4, checks5, past_length5, checks7, base_checks, any_data_checks7};
 
-use scan::Scan;
-use sections::{Context, Cut, Judged, Why};
+use sections::{Context, Cut, Refusal, Why};
 use values::Product;
-
-fn wide16(x: u16) -> u32
-    ensures { result ≡ x }
-{
-    x as u32
-}
 
 // The fields that other sections and the calls go by: each octet number stands here alone.
 
@@ -128,125 +121,89 @@ fn table_at(s: &[u8], at: usize, product: Product) -> bool
 // Each kind of section: the length first, then the fields, which are read in the part of the file that they stand in. In a part of a known length no
 // field needs a test of its own.
 
-fn judge3(s: &[u8], at: usize) -> Judged
+fn judge3(s: &[u8], at: usize) -> Result<(), Refusal>
     requires { at + length_at s.now at ≤ length s.now }
     ensures { result ≡ first_fault (checks3 s.now at) }
 {
-    if rules::length_at(s, at) != 41 {
-        return sections::refused(Why::SectionLength, at);
-    }
-    let to = at + 41;
-    let part = &s[at..to];
+    sections::check(rules::length_at(s, at) == 41, Why::SectionLength, at)?;
+    let part = &s[at..at + 41];
+    sections::check(fields3(part, 0), Why::Field, at)?;
     let said = rules::wide(rules::field32(part, 0, 7));
-    let due = rules::points_of(rules::bins_at(part, 0), rules::rays_at(part, 0));
-    sections::check(
-        fields3(part, 0),
-        Why::Field,
-        at,
-        sections::check(said == due, Why::Points, at, sections::accepted()),
-    )
+    sections::check(said == rules::points_at(part, 0), Why::Points, at)
 }
 
-fn judge4(s: &[u8], x: Context, at: usize) -> Judged
+fn judge4(s: &[u8], x: Context, at: usize) -> Result<(), Refusal>
     requires { at + length_at s.now at ≤ length s.now }
     ensures { result ≡ first_fault (checks4 s.now x at) }
 {
     let len = rules::wide(rules::length_at(s, at));
     let due = 60 + 4 * rules::wide(rules::rays_at(s, x.section3));
-    if len != due {
-        return sections::refused(Why::SectionLength, at);
-    }
+    sections::check(len == due, Why::SectionLength, at)?;
     let parameter = rules::parameter_at(s, x.first);
     let site = site_at(s, x.first);
-    let to = at + 60;
-    sections::check(
-        fields4(&s[at..to], 0, parameter, site),
-        Why::Field,
-        at,
-        sections::accepted(),
-    )
+    let fields = fields4(&s[at..at + 60], 0, parameter, site);
+    sections::check(fields, Why::Field, at)
 }
 
 // The checks of section 5 past its length.
-fn judge5_fields(s: &[u8], x: Context, at: usize) -> Judged
+fn judge5_fields(s: &[u8], x: Context, at: usize) -> Result<(), Refusal>
     requires { (17 ≤ length_at s.now at) × (at + length_at s.now at ≤ length s.now) }
     ensures { result ≡ first_fault (past_length5 s.now x at) }
 {
-    let to = at + 17;
-    let part = &s[at..to];
+    let part = &s[at..at + 17];
     let product = product_of(rules::parameter_at(s, x.section4));
+    let m = values::level_count(product) as u16;
+    sections::check(fields5(part, 0, m), Why::Field, at)?;
     let said = rules::wide(rules::field32(part, 0, 6));
     let points = rules::points_at(s, x.section3);
-    let m = values::level_count(product) as u16;
-    let table = table_at(s, at, product);
-    sections::check(
-        fields5(part, 0, m),
-        Why::Field,
-        at,
-        sections::check(
-            said == points,
-            Why::Points,
-            at,
-            sections::check(table, Why::Table, at, sections::accepted()),
-        ),
-    )
+    sections::check(said == points, Why::Points, at)?;
+    sections::check(table_at(s, at, product), Why::Table, at)
 }
 
-fn judge5(s: &[u8], x: Context, at: usize) -> Judged
+fn judge5(s: &[u8], x: Context, at: usize) -> Result<(), Refusal>
     requires { at + length_at s.now at ≤ length s.now }
     ensures { result ≡ first_fault (checks5 s.now x at) }
 {
-    let len = rules::length_at(s, at);
-    let due = 17 + 2 * wide16(count_at(s, at));
-    if len == due {
-        judge5_fields(s, x, at)
-    } else {
-        sections::refused(Why::SectionLength, at)
-    }
+    let due = 17 + 2 * count_at(s, at) as u32;
+    sections::check(rules::length_at(s, at) == due, Why::SectionLength, at)?;
+    judge5_fields(s, x, at)
 }
 
 // The checks before it have held the bins and V to what a scan takes. The data is the section's octets from the sixth on, and the place of 8 is the octet at fault.
-pub fn judge7(s: &[u8], x: Context, at: usize) -> Judged
+pub fn judge7(s: &[u8], x: Context, at: usize) -> Result<(), Refusal>
     requires at_in_bounds { at + length_at s.now at ≤ length s.now }
     requires section3_bound { (points_at s.now x.section3 ≤ 2097152) × (greatest_at s.now x.section5 ≤ 252) }
     ensures { result ≡ first_fault (checks7 s.now x at) }
 {
+    judge_any7(s, at)?;
     let len = rules::length_at(s, at);
-    if len < 6 {
-        return sections::refused(Why::SectionLength, at);
-    }
     let v = greatest_at(s, x.section5) as u8;
     let bins = rules::points_at(s, x.section3) as usize;
     let from = at + 5;
     let to = at + len as usize;
     match scan::scan_runs(&s[from..to], v, bins) {
-        Scan::Exact => Judged::Accepted,
-        Scan::Off(i) => sections::refused(Why::Data, from + i),
+        Ok(()) => Ok(()),
+        Err(i) => Err(sections::refuse(Why::Data, from + i)),
     }
 }
 
 // The same but for the data.
-pub fn judge_any7(s: &[u8], at: usize) -> Judged
+pub fn judge_any7(s: &[u8], at: usize) -> Result<(), Refusal>
     ensures { result ≡ first_fault (any_data_checks7 s.now at) }
 {
-    let len = rules::length_at(s, at);
-    sections::check(6 <= len, Why::SectionLength, at, sections::accepted())
+    sections::check(6 <= rules::length_at(s, at), Why::SectionLength, at)
 }
 
 // The checks of a section of the format's own other than a 7, which has its functions above.
-pub fn judge(s: &[u8], x: Context, at: usize, n: u8) -> Judged
+pub fn judge(s: &[u8], x: Context, at: usize, n: u8) -> Result<(), Refusal>
     requires at_in_bounds { at + length_at s.now at ≤ length s.now }
     requires fact { n ≡ 7 → ⊥ }
     ensures { result ≡ first_fault (base_checks s.now x at n) }
 {
-    if n == 3 {
-        return judge3(s, at);
+    match n {
+        3 => judge3(s, at),
+        4 => judge4(s, x, at),
+        5 => judge5(s, x, at),
+        _ => Ok(()),
     }
-    if n == 4 {
-        return judge4(s, x, at);
-    }
-    if n == 5 {
-        return judge5(s, x, at);
-    }
-    Judged::Accepted
 }

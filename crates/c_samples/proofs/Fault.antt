@@ -10,16 +10,15 @@ use Rattle.runs.proofs.Fault.{fault_inside, fault_only}
 use Rattle.bare.specs.Read.{read_answer, read_out, ReadPromise, check_answer}
 use Rattle.bare.specs.Reasons.{ReadReason, CheckReason}
 use Rattle.bare.specs.declared.ReadRefusal.TheVariants as F
-use Rattle.bare.specs.declared.RunRead.{RunRead}
-use Rattle.bare.specs.declared.RunRead.TheVariants as R
 use Rattle.bare.specs.declared.CheckRefusal.TheVariants as C
-use Rattle.bare.specs.declared.RunCheck.{RunCheck}
-use Rattle.bare.specs.declared.RunCheck.TheVariants as K
 use Rattle.bare.proofs.Reasons.{read_reason, reason_read, check_reason, reason_check}
 use Rattle.c_words.specs.Word.{refusal_word, place_told, number_in, place_in}
 use Rattle.c_words.specs.Runs.{check_return, read_return}
 use Rattle.c_words.proofs.Word.{number_back, place_back, place_told_lem}
 use Rattle.polar_c.specs.Runs.{RunCheckCall, RunReadCall}
+use Rattle.bare.specs.declared.CheckRefusal.{CheckRefusal}
+use Rattle.bare.specs.declared.ReadRefusal.{ReadRefusal}
+use Rattle.std.specs.Prelude.{Err, Ok, Result, ⊤}
 
 module _ (v n : ℕ) (octets : List ℕ) (few : length octets ≤ 0xFFFFFFFFFFFFFF) where
   -- the word of 8 at the octet at fault
@@ -30,11 +29,11 @@ module _ (v n : ℕ) (octets : List ℕ) (few : length octets ≤ 0xFFFFFFFFFFFF
 
   -- ── run check ──
 
-  check_word : (w : ℕ) (a : RunCheck) → check_answer v n octets ≡ a → w ≡ check_return a → number_in w ≡ 8 → AtFault v n octets (place_in w)
-  check_word w K.Gives e is z = absurd (omega arith)
-  check_word w (K.Refused C.V) e is z = absurd (omega arith)
-  check_word w (K.Refused C.Argument) e is z = absurd (omega arith)
-  check_word w (K.Refused (C.Data i)) e is z = go (check_reason v n octets (C.Data i) (record { answered = sym e }))
+  check_word : (w : ℕ) (a : Result ⊤ CheckRefusal) → check_answer v n octets ≡ a → w ≡ check_return a → number_in w ≡ 8 → AtFault v n octets (place_in w)
+  check_word w (Ok tt) e is z = absurd (omega arith)
+  check_word w (Err C.V) e is z = absurd (omega arith)
+  check_word w (Err C.Argument) e is z = absurd (omega arith)
+  check_word w (Err (C.Data i)) e is z = go (check_reason v n octets (C.Data i) (record { answered = sym e }))
     where
       go : CheckReason v n octets (C.Data i) → AtFault v n octets (place_in w)
       go (CheckReason.by_data a b f) = subst (AtFault v n octets) (sym (ap place_in is ∙ told i f)) f
@@ -51,12 +50,12 @@ module _ (v n : ℕ) (octets : List ℕ) (few : length octets ≤ 0xFFFFFFFFFFFF
   -- ── run read ──
 
   module _ (lent lent' : List ℕ) where
-    read_word : (w : ℕ) (a : RunRead) → read_answer v n (length lent) octets ≡ a → w ≡ read_return a → ReadPromise v n octets lent a lent' → number_in w ≡ 8 → AtFault v n octets (place_in w)
-    read_word w R.Read e is p z = absurd (omega arith)
-    read_word w (R.Refused F.V) e is p z = absurd (omega arith)
-    read_word w (R.Refused F.Argument) e is p z = absurd (omega arith)
-    read_word w (R.Refused F.Room) e is p z = absurd (omega arith)
-    read_word w (R.Refused (F.Data i)) e is p z = go (read_reason v n octets lent lent' (F.Data i) p)
+    read_word : (w : ℕ) (a : Result ⊤ ReadRefusal) → read_answer v n (length lent) octets ≡ a → w ≡ read_return a → ReadPromise v n octets lent a lent' → number_in w ≡ 8 → AtFault v n octets (place_in w)
+    read_word w (Ok tt) e is p z = absurd (omega arith)
+    read_word w (Err F.V) e is p z = absurd (omega arith)
+    read_word w (Err F.Argument) e is p z = absurd (omega arith)
+    read_word w (Err F.Room) e is p z = absurd (omega arith)
+    read_word w (Err (F.Data i)) e is p z = go (read_reason v n octets lent lent' (F.Data i) p)
       where
         go : ReadReason v n (length lent) octets (F.Data i) → AtFault v n octets (place_in w)
         go (ReadReason.by_data a b c f) = subst (AtFault v n octets) (sym (ap place_in is ∙ told i f)) f
@@ -68,4 +67,4 @@ module _ (v n : ℕ) (octets : List ℕ) (few : length octets ≤ 0xFFFFFFFFFFFF
     fault_read w i low small room f p =
         let a = reason_read v n octets lent lent' (F.Data i) (read_answer v n (length lent) octets) (ReadReason.by_data low small room f) (record { answered = refl; held = p.held }) in
         let is : w ≡ refusal_word 8 (place_told i) = p.returned ∙ ap read_return a in
-        (ap number_in is ∙ number_back 8 (place_told i) (omega arith), ap place_in is ∙ told i f, p.held ∙ ap (λ (x : RunRead). read_out x (levels v octets) lent) a)
+        (ap number_in is ∙ number_back 8 (place_told i) (omega arith), ap place_in is ∙ told i f, p.held ∙ ap (λ (x : Result ⊤ ReadRefusal). read_out x (levels v octets) lent) a)

@@ -21,9 +21,10 @@ use Rattle.sections.specs.declared.Why.TheVariants.{Argument}
 use Rattle.base_format.specs.Verdict.{verdict}
 use Rattle.calls.specs.Cuts.{on_cut}
 use Rattle.polar.specs.Stretching.{stretches_on, stretch_answer, if_listed, words_after}
-use Rattle.polar.specs.declared.StretchAnswer.{StretchAnswer}
-use Rattle.polar.specs.declared.StretchAnswer.TheVariants.{Refused}
 use Rattle.c_words.specs.Arguments.{narrow_v, narrow_threshold}
+use Rattle.sections.specs.declared.Refusal.{Refusal}
+use Rattle.stretches.specs.declared.Listing.{Listing}
+use Rattle.std.specs.Prelude.{Err, Result}
 
 -- ── V ──
 
@@ -71,21 +72,21 @@ narrow_fits t = go (lt_z t (negsuc 32766)) (lt_z (pos 32767) t) refl refl
     go false false e f = let h = threshold_small t e f in record { sfits = omega arith }
 
 module _ (s : List ℕ) (i ray bin room : ℕ) (t : ℤ) (wrong : right_t t ≡ false) where
-  on_wrong : (c : Cut) → stretches_on s t ray bin room c ≡ Refused (refuse Argument 0)
+  on_wrong : (c : Cut) → stretches_on s t ray bin room c ≡ Err (refuse Argument 0)
   unfolding stretches_on
   on_wrong c = rw wrong
 
   -- such a call refuses, by the file or by 10
-  pub wrong_answer : (v : Verdict) → on_cut Refused (stretches_on s t ray bin room) i v ≡ on_cut Refused (λ c. Refused (refuse Argument 0)) i v
+  pub wrong_answer : (v : Verdict) → on_cut Err (stretches_on s t ray bin room) i v ≡ on_cut Err (λ c. Err (refuse Argument 0)) i v
   unfolding on_cut
-  wrong_answer (accepted cs) = ap (λ (x : StretchAnswer). cond (ltb i (length cs)) x (Refused (refuse Argument 0))) (on_wrong (get_or cs i default_cut))
+  wrong_answer (accepted cs) = ap (λ (x : Result Listing Refusal). cond (ltb i (length cs)) x (Err (refuse Argument 0))) (on_wrong (get_or cs i default_cut))
   wrong_answer (refused r) = refl
 
-unlisted : (i : ℕ) (v : Verdict) (new old : List ℕ) → if_listed (on_cut Refused (λ c. Refused (refuse Argument 0)) i v) new old ≡ old
+unlisted : (i : ℕ) (v : Verdict) (new old : List ℕ) → if_listed (on_cut Err (λ c. Err (refuse Argument 0)) i v) new old ≡ old
 unfolding on_cut
 unlisted i (accepted cs) new old = go (ltb i (length cs))
   where
-    go : (b : Bool) → if_listed (cond b (Refused (refuse Argument 0)) (Refused (refuse Argument 0))) new old ≡ old
+    go : (b : Bool) → if_listed (cond b (Err (refuse Argument 0)) (Err (refuse Argument 0))) new old ≡ old
     go true = refl
     go false = refl
 unlisted i (refused r) new old = refl

@@ -12,8 +12,6 @@ use Rattle.values.specs.Reading.{reading_of}
 use Rattle.values.specs.declared.Reading.{Reading}
 use Rattle.values.specs.declared.Reading.TheVariants as G
 use Rattle.index.specs.declared.RayRecord.{RayRecord}
-use Rattle.scaled.specs.declared.Cell.{Cell}
-use Rattle.scaled.specs.declared.Cell.TheVariants as L
 use Rattle.stretches.specs.Stretch.{per_entry}
 use Rattle.stretches.specs.Call.{answer_of, right_t, right_point}
 use Rattle.sections.specs.Refusal.{refuse}
@@ -38,22 +36,16 @@ use Rattle.cuts.specs.Bins.{stretches_in}
 use Rattle.cuts.specs.Records.{usable_in}
 use Rattle.calls.proofs.Judging.{never}
 use Rattle.calls.specs.Cuts.{judged, on_file, on_cut}
-use Rattle.calls.specs.declared.RayAnswer.TheVariants as R
-use Rattle.calls.specs.declared.BinAnswer.TheVariants as B
 use Rattle.polar.specs.Opening.{summary_of, open_answer, info_of, cut_answer}
 use Rattle.polar.specs.Rays.{ray_on, ray_answer, bin_of, bin_on, bin_answer}
 use Rattle.polar.specs.Stretching.{stretches_on, stretch_answer}
-use Rattle.polar.specs.declared.Opened.TheVariants as O
-use Rattle.polar.specs.declared.CutAnswer.TheVariants as C
-use Rattle.polar.specs.declared.StretchAnswer.TheVariants as S
 use Rattle.records.specs.Records.{build_on, build_answer, from_on, from_answer}
 use Rattle.dualpol.specs.Answers as D
-use Rattle.dualpol.specs.declared.DualOpened.TheVariants as DO
-use Rattle.dualpol.specs.declared.DualCut.TheVariants as DC
 use Rattle.c_words.specs.Word.{word_of, InWord}
 use Rattle.c_words.specs.Files.{open_return, cut_return, ray_return, bin_return, stretch_return}
 use Rattle.c_words.specs.Dual.{dual_open_return, dual_cut_return}
 use Rattle.c_words.proofs.Word.{in_word}
+use Rattle.std.specs.Prelude.{Err, None, Ok, Option, Some, Float}
 
 -- ── a call of any format, by what it returns for its answer ──
 
@@ -110,19 +102,19 @@ module _ (own : FormatChecks) (own-inside' : OwnInside own) (s : List ℕ) where
 
 pub open_fits : (s : List ℕ) → InWord (open_return (open_answer s))
 unfolding open_answer
-open_fits s = file_fits base_checks own_inside s O.Refused open_return (λ r. refl) (λ n c. O.File (summary_of s n c)) (λ n c. omega arith)
+open_fits s = file_fits base_checks own_inside s Err open_return (λ r. refl) (λ n c. Ok (summary_of s n c)) (λ n c. omega arith)
 
 pub cut_info_fits : (s : List ℕ) (i : ℕ) → InWord (cut_return (cut_answer s i))
 unfolding cut_answer
-cut_info_fits s i = cut_fits base_checks own_inside s C.Refused cut_return (λ r. refl) (λ c. C.Cut (info_of s c)) i (λ cs e lt. omega arith)
+cut_info_fits s i = cut_fits base_checks own_inside s Err cut_return (λ r. refl) (λ c. Ok (info_of s c)) i (λ cs e lt. omega arith)
 
 pub ray_fits : (s : List ℕ) (i ray room : ℕ) → InWord (ray_return (ray_answer s i ray room))
 unfolding ray_answer ray_on
 ray_fits s i ray room =
-    judged_fits base_checks own_inside s R.Refused ray_return (λ r. refl) (λ c. ltb ray (rays_in s c)) (λ c. leb (bins_in s c) room) (λ c. true) (λ c. R.Written) i (λ c. refl)
+    judged_fits base_checks own_inside s Err ray_return (λ r. refl) (λ c. ltb ray (rays_in s c)) (λ c. leb (bins_in s c) room) (λ c. true) (λ c. (Ok tt)) i (λ c. refl)
     (λ cs e lt no. absurd (never.0 no))
 
-reading_returned : (x : Reading) → bin_return (bin_of x) ≡ 0
+reading_returned : (x : Reading) → bin_return (Ok (bin_of x)) ≡ 0
 unfolding bin_of
 reading_returned G.Missing = refl
 reading_returned (G.Number z) = refl
@@ -130,28 +122,28 @@ reading_returned (G.Number z) = refl
 pub bin_fits : (s : List ℕ) (i ray bin : ℕ) → InWord (bin_return (bin_answer s i ray bin))
 unfolding bin_answer bin_on
 bin_fits s i ray bin =
-    judged_fits base_checks own_inside s B.Refused bin_return (λ r. refl) (λ c. ltb ray (rays_in s c) && ltb bin (bins_in s c)) (λ c. true) (λ c. true) _ i
+    judged_fits base_checks own_inside s Err bin_return (λ r. refl) (λ c. ltb ray (rays_in s c) && ltb bin (bins_in s c)) (λ c. true) (λ c. true) _ i
     (λ c. reading_returned (reading_of (product_in s c) (level_in s c ray bin))) (λ cs e lt no. absurd (never.0 no))
 
 pub stretches_fits : (s : List ℕ) (i : ℕ) (t : ℤ) (ray bin room : ℕ) → InWord (stretch_return (stretch_answer s i t ray bin room))
 unfolding stretch_answer stretches_on
 stretches_fits s i t ray bin room =
-    judged_fits base_checks own_inside s S.Refused stretch_return (λ r. refl) (λ c. right_t t && right_point (bins_in s c) (rays_in s c) ray bin) (λ c. leb per_entry room) (λ c. true)
-    (λ c. S.Listed (answer_of (rays_in s c) room (stretches_in s c t ray bin))) i (λ c. refl) (λ cs e lt no. absurd (never.0 no))
+    judged_fits base_checks own_inside s Err stretch_return (λ r. refl) (λ c. right_t t && right_point (bins_in s c) (rays_in s c) ray bin) (λ c. leb per_entry room) (λ c. true)
+    (λ c. Ok (answer_of (rays_in s c) room (stretches_in s c t ray bin))) i (λ c. refl) (λ cs e lt no. absurd (never.0 no))
 
 -- ── by a record ──
 
 pub build_fits : (s : List ℕ) (i room : ℕ) → InWord (ray_return (build_answer s i room))
 unfolding build_answer build_on
 build_fits s i room =
-    judged_fits base_checks own_inside s R.Refused ray_return (λ r. refl) (λ c. true) (λ c. leb (rays_in s c) room) (λ c. true) (λ c. R.Written) i (λ c. refl)
+    judged_fits base_checks own_inside s Err ray_return (λ r. refl) (λ c. true) (λ c. leb (rays_in s c) room) (λ c. true) (λ c. (Ok tt)) i (λ c. refl)
     (λ cs e lt no. absurd (never.0 no))
 
 -- section 7 of an accepted file's cut lies in the file
 pub from_fits : (s : List ℕ) (i ray : ℕ) (rec : RayRecord) (room : ℕ) → InWord (ray_return (from_answer s i ray rec room))
 unfolding from_answer from_on
 from_fits s i ray rec room =
-    judged_fits any_data_checks any_own_inside s R.Refused ray_return (λ r. refl) (λ c. ltb ray (rays_in s c)) (λ c. leb (bins_in s c) room) (λ c. usable_in s c rec) (λ c. R.Written) i (λ c. refl)
+    judged_fits any_data_checks any_own_inside s Err ray_return (λ r. refl) (λ c. ltb ray (rays_in s c)) (λ c. leb (bins_in s c) room) (λ c. usable_in s c rec) (λ c. (Ok tt)) i (λ c. refl)
     (λ cs e lt no.
     let file = any_exact.accepted_only s cs e in
     let inside = (any_cut_of s cs file i lt).data_inside in
@@ -162,19 +154,18 @@ from_fits s i ray rec room =
 
 pub dual_open_fits : (s : List ℕ) → InWord (dual_open_return (D.open_answer s))
 unfolding D.open_answer
-dual_open_fits s = file_fits dual_checks dual-own-inside s DO.Refused dual_open_return (λ r. refl) (λ n c. DO.File (D.summary_of s n c)) (λ n c. omega arith)
+dual_open_fits s = file_fits dual_checks dual-own-inside s Err dual_open_return (λ r. refl) (λ n c. Ok (D.summary_of s n c)) (λ n c. omega arith)
 
 pub dual_cut_fits : (s : List ℕ) (i : ℕ) → InWord (dual_cut_return (D.cut_answer s i))
 unfolding D.cut_answer
-dual_cut_fits s i = cut_fits dual_checks dual-own-inside s DC.Refused dual_cut_return (λ r. refl) _ i (λ cs e lt. omega arith)
+dual_cut_fits s i = cut_fits dual_checks dual-own-inside s Err dual_cut_return (λ r. refl) _ i (λ cs e lt. omega arith)
 
-cell_returned : (x : Cell) → bin_return (D.bin_of x) ≡ 0
-unfolding D.bin_of
-cell_returned L.Missing = refl
-cell_returned (L.Value x) = refl
+cell_returned : (x : Option Float) → bin_return (Ok x) ≡ 0
+cell_returned None = refl
+cell_returned (Some x) = refl
 
 pub dual_bin_fits : (s : List ℕ) (i ray bin : ℕ) → InWord (bin_return (D.bin_answer s i ray bin))
 unfolding D.bin_answer D.bin_on
 dual_bin_fits s i ray bin =
-    judged_fits dual_checks dual-own-inside s B.Refused bin_return (λ r. refl) (λ c. ltb ray (rays_in s c) && ltb bin (bins_in s c)) (λ c. true) (λ c. true) _ i
+    judged_fits dual_checks dual-own-inside s Err bin_return (λ r. refl) (λ c. ltb ray (rays_in s c) && ltb bin (bins_in s c)) (λ c. true) (λ c. true) _ i
     (λ c. cell_returned (told_in s c ray bin)) (λ cs e lt no. absurd (never.0 no))

@@ -17,25 +17,21 @@ use Rattle.sections.specs.Exact.{Exact}
 use Rattle.sections.specs.Parts.{bins_in, rays_in}
 use Rattle.sections.specs.declared.Cut.{Cut}
 use Rattle.sections.specs.declared.Refusal.{Refusal}
-use Rattle.sections.specs.declared.Judged.TheVariants as J
 use Rattle.sections.specs.declared.Why.TheVariants.{Argument, Room, Record}
 use Rattle.calls.specs.Cuts.{on_cut, judged, judged_by, if_written}
 use Rattle.calls.specs.Reasons.{CutReason, by_argument, by_room, by_record, Reason}
-use Rattle.calls.specs.declared.RayAnswer.{RayAnswer}
-use Rattle.calls.specs.declared.RayAnswer.TheVariants as R
-use Rattle.calls.specs.declared.BinAnswer.{BinAnswer}
-use Rattle.calls.specs.declared.BinAnswer.TheVariants as B
 use Rattle.calls.proofs.ByVerdict.{by_verdict, reason, by_reason}
+use Rattle.std.specs.Prelude.{Err, None, Ok, Option, Result, Some, ⊤}
 
 -- ── what `judge` answers, and what a call then comes to ──
 
-pub judged_bad : {A : Type 0} (bad : Refusal → A) (c : Cut) (fits : Bool) (answer : A) (a b : Bool) (r : Refusal) → judged_by a b ≡ J.Refused r → judged bad c a b fits answer ≡ bad r
+pub judged_bad : {A : Type 0} (bad : Refusal → A) (c : Cut) (fits : Bool) (answer : A) (a b : Bool) (r : Refusal) → judged_by a b ≡ Err r → judged bad c a b fits answer ≡ bad r
 unfolding judged_by
 judged_bad bad c f x true true r h = let z : ◌≡◌ {A = ℕ} 0 1 = cc h in absurd (omega arith)
 judged_bad bad c f x true false r h = let same : refuse Room 0 ≡ r = cc h in ap bad same
 judged_bad bad c f x false b r h = let same : refuse Argument 0 ≡ r = cc h in ap bad same
 
-pub judged_fine : (a b : Bool) → judged_by a b ≡ J.Accepted → (a ≡ true) × (b ≡ true)
+pub judged_fine : (a b : Bool) → judged_by a b ≡ (Ok tt) → (a ≡ true) × (b ≡ true)
 unfolding judged_by
 judged_fine true true h = (refl, refl)
 judged_fine true false h = let z : ◌≡◌ {A = ℕ} 0 1 = cc h in absurd (omega arith)
@@ -46,7 +42,7 @@ pub both_rooms : (n room a b : ℕ) → n ≤ room → room ≡ min a b → (n �
 both_rooms n room a b h e = (omega arith, omega arith)
 
 -- where the last test was made by what filled the room
-pub written_if : {A : Type 0} (fits : Bool) (q : Refusal) (a : RayAnswer) (x y z : A) → a ≡ cond fits R.Written (R.Refused q) → z ≡ cond fits x y → z ≡ if_written a x y
+pub written_if : {A : Type 0} (fits : Bool) (q : Refusal) (a : Result ⊤ Refusal) (x y z : A) → a ≡ cond fits (Ok tt) (Err q) → z ≡ cond fits x y → z ≡ if_written a x y
 written_if true q a x y z e h = rw e h
 written_if false q a x y z e h = rw e h
 
@@ -138,7 +134,7 @@ module _ (own : FormatChecks) (format : Format) (exact : Exact own format) (s : 
 
 -- both ray calls, plain or by a record: 10 for the ray, then 11 for room under Nb
 pub ray_judges : (s : List ℕ) (ray room : ℕ) (c : Cut) (fits : Bool) {Unfit : Type 0} → (fits ≡ false) ↔ Unfit
-    → Judges R.Refused (λ a. a ≡ R.Written) (ltb ray (rays_in s c)) (leb (bins_in s c) room) fits R.Written (rays_in s c ≤ ray) (room < bins_in s c) Unfit
+    → Judges {A = Result ⊤ Refusal} Err (λ a. a ≡ Ok tt) (ltb ray (rays_in s c)) (leb (bins_in s c) room) fits (Ok tt) (rays_in s c ≤ ray) (room < bins_in s c) Unfit
 ray_judges s ray room c fits u =
     record {
       wrong = not_lt ray (rays_in s c);
@@ -150,11 +146,11 @@ ray_judges s ray room c fits u =
     }
 
 -- bin value of either format: 10 for the ray or the bin; it answers missing, or a value
-abbrev pub BinAnswered : BinAnswer → Type 0
-BinAnswered a = (a ≡ B.Missing) ⊎ ((x : Float) × (a ≡ B.Value x))
+abbrev pub BinAnswered : Result (Option Float) Refusal → Type 0
+BinAnswered a = (a ≡ (Ok None)) ⊎ ((x : Float) × (a ≡ Ok (Some x)))
 
-pub bin_judges : (s : List ℕ) (ray bin : ℕ) (c : Cut) (x : BinAnswer) → BinAnswered x
-    → Judges B.Refused BinAnswered (ltb ray (rays_in s c) && ltb bin (bins_in s c)) true true x ((rays_in s c ≤ ray) ⊎ (bins_in s c ≤ bin)) ⊥ ⊥
+pub bin_judges : (s : List ℕ) (ray bin : ℕ) (c : Cut) (x : Result (Option Float) Refusal) → BinAnswered x
+    → Judges Err BinAnswered (ltb ray (rays_in s c) && ltb bin (bins_in s c)) true true x ((rays_in s c ≤ ray) ⊎ (bins_in s c ≤ bin)) ⊥ ⊥
 bin_judges s ray bin c x told =
     record {
       wrong = not_both _ _ (not_lt ray (rays_in s c)) (not_lt bin (bins_in s c));

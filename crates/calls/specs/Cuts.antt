@@ -1,19 +1,12 @@
 -- "Every file call is lent the whole file and makes all these checks itself. Then 10": what a call on cut i of a file comes to.
-use Rattle.std.specs.Prelude.{ℕ, List, Bool, true, cond, ltb, length, get_or}
+use Rattle.std.specs.Prelude.{ℕ, List, Bool, true, cond, ltb, length, get_or, Err, Ok, Result, ⊤}
 use Rattle.sections.specs.Refusal.{refuse}
 use Rattle.sections.specs.Verdict.{Verdict, accepted, refused, default_cut}
 use Rattle.base_format.specs.Verdict.{verdict, any_data_verdict}
 use Rattle.sections.specs.declared.Cut.{Cut}
 use Rattle.sections.specs.declared.Refusal.{Refusal}
 use Rattle.sections.specs.declared.Why.TheVariants.{Argument, Room, Record}
-use Rattle.sections.specs.declared.Judged.{Judged}
-use Rattle.sections.specs.declared.Judged.TheVariants as J
-use Rattle.walks.specs.declared.Walked.{Walked}
-use Rattle.walks.specs.declared.Walked.TheVariants as W
-use Rattle.calls.specs.declared.Sought.{Sought}
-use Rattle.calls.specs.declared.Sought.TheVariants as S
-use Rattle.calls.specs.declared.RayAnswer.{RayAnswer}
-use Rattle.calls.specs.declared.RayAnswer.TheVariants.{Written, Refused}
+use Rattle.walks.specs.declared.Found.{Found}
 
 -- the file's own refusal; then 10 where the file has no cut i; then what the cut says
 unfoldable pub on_cut : {A : Type 0} → (Refusal → A) → (Cut → A) → ℕ → Verdict → A
@@ -41,17 +34,16 @@ abbrev pub cut_any_data : List ℕ → ℕ → Cut
 cut_any_data s i = cut_at i (any_data_verdict s)
 
 -- lent memory after a call that fills it: what is written, or what it was
-abbrev pub if_written : {A : Type 0} → RayAnswer → A → A → A
-if_written Written new old = new
-if_written (Refused r) new old = old
+abbrev pub if_written : {A : Type 0} → Result ⊤ Refusal → A → A → A
+if_written (Ok tt) new old = new
+if_written (Err r) new old = old
 
 -- what a call goes by: no promise of a call cites these
-abbrev pub sought_in : ℕ → Verdict → Sought
-sought_in = on_cut S.Refused S.Cut
+abbrev pub sought_in : ℕ → Verdict → Result Cut Refusal
+sought_in = on_cut Err Ok
 
-abbrev pub sought_by : ℕ → Walked → Sought
-sought_by i (W.Accepted f) = cond (ltb i f.cuts) (S.Cut f.cut) (S.Refused (refuse Argument 0))
-sought_by i (W.Refused r) = S.Refused r
+abbrev pub sought_by : ℕ → Found → Result Cut Refusal
+sought_by i f = cond (ltb i f.cuts) (Ok f.cut) (Err (refuse Argument 0))
 
-unfoldable pub judged_by : Bool → Bool → Judged
-judged_by right roomy = judged J.Refused default_cut right roomy true J.Accepted
+unfoldable pub judged_by : Bool → Bool → Result ⊤ Refusal
+judged_by right roomy = judged Err default_cut right roomy true (Ok tt)

@@ -8,81 +8,48 @@ ghost use Rattle.base_format.specs.Verdict.{verdict, any_data_verdict};
 ghost use Rattle.dual_format.specs.Verdict.{verdict as dual_verdict};
 ghost use Rattle.calls.specs.Cuts.{sought_in, sought_by, judged_by};
 
-use sections::{Cut, Judged, Refusal, Why};
-use walks::Walked;
+use sections::{Cut, Refusal, Why};
+use walks::Found;
 
-// The cut that was asked for, of an accepted file; or the refusal.
-#[derive(Clone, Copy)]
-pub enum Sought {
-    Cut(Cut),
-    Refused(Refusal),
-}
-
-// What the ray calls answer, by a record or without one, and index building.
-#[derive(Clone, Copy)]
-pub enum RayAnswer {
-    Written,
-    Refused(Refusal),
-}
-
-// What bin value answers.
-#[derive(Clone, Copy)]
-pub enum BinAnswer {
-    Missing,
-    Value(f64),
-    Refused(Refusal),
-}
-
-fn sought_by(walked: Walked, i: usize) -> Sought
-    ensures { result ≡ sought_by i walked }
+// The cut that was asked for, where the file has so many.
+fn sought_by(found: Found, i: usize) -> Result<Cut, Refusal>
+    ensures { result ≡ sought_by i found }
 {
-    match walked {
-        Walked::Accepted(f) => {
-            let c = f.cut;
-            if i < f.cuts {
-                return Sought::Cut(c);
-            }
-            Sought::Refused(sections::refuse(Why::Argument, 0))
-        }
-        Walked::Refused(refusal) => Sought::Refused(refusal),
-    }
+    sections::check(i < found.cuts, Why::Argument, 0)?;
+    Ok(found.cut)
 }
 
 // Cut i of a run-length packed file.
-pub fn find(file: &[u8], i: usize) -> Sought
+pub fn find(file: &[u8], i: usize) -> Result<Cut, Refusal>
     ensures { result ≡ sought_in i (verdict file.now) }
 {
-    sought_by(walks::walk(file, i), i)
+    sought_by(walks::walk(file, i)?, i)
 }
 
 // The same of a dual-polarisation file.
-pub fn find_dual(file: &[u8], i: usize) -> Sought
+pub fn find_dual(file: &[u8], i: usize) -> Result<Cut, Refusal>
     ensures { result ≡ sought_in i (dual_verdict file.now) }
 {
-    sought_by(walks::walk_dual(file, i), i)
+    sought_by(walks::walk_dual(file, i)?, i)
 }
 
 // The same of a run-length packed file whose data may be anything.
-pub fn find_any(file: &[u8], i: usize) -> Sought
+pub fn find_any(file: &[u8], i: usize) -> Result<Cut, Refusal>
     ensures { result ≡ sought_in i (any_data_verdict file.now) }
 {
-    sought_by(walks::walk_any(file, i), i)
+    sought_by(walks::walk_any(file, i)?, i)
 }
 
 // What a call asks of its arguments and of the room that it is lent: 10, then 11.
-pub fn judge(right: bool, roomy: bool) -> Judged
+pub fn judge(right: bool, roomy: bool) -> Result<(), Refusal>
     ensures { result ≡ judged_by right roomy }
 {
-    sections::check(
-        right,
-        Why::Argument,
-        0,
-        sections::check(roomy, Why::Room, 0, sections::accepted()),
-    )
+    sections::check(right, Why::Argument, 0)?;
+    sections::check(roomy, Why::Room, 0)
 }
 
 // The same of a call on a ray of the cut, which is lent so much room.
-pub fn judge_ray(file: &[u8], c: Cut, ray: usize, room: usize) -> Judged
+pub fn judge_ray(file: &[u8], c: Cut, ray: usize, room: usize) -> Result<(), Refusal>
     ensures { result ≡ judged_by (ltb ray (rays_in file.now c)) (leb (bins_in file.now c) room) }
 {
     judge(
@@ -92,7 +59,7 @@ pub fn judge_ray(file: &[u8], c: Cut, ray: usize, room: usize) -> Judged
 }
 
 // And of a call on a bin.
-pub fn judge_bin(file: &[u8], c: Cut, ray: usize, bin: usize) -> Judged
+pub fn judge_bin(file: &[u8], c: Cut, ray: usize, bin: usize) -> Result<(), Refusal>
     ensures { result ≡ judged_by (ltb ray (rays_in file.now c) && ltb bin (bins_in file.now c)) true }
 {
     judge(

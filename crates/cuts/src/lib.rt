@@ -14,7 +14,7 @@ ghost use Rattle.base_format.specs.Good.{AnyDataCut, GoodCut};
 ghost use Rattle.stretches.specs.Call.{answer_of, out_of, right_point};
 ghost use Rattle.cuts.specs.Bins.{bins_from, ray_in, stretches_in};
 ghost use Rattle.cuts.specs.Records.{usable_in, ray_from};
-ghost use Rattle.cuts.specs.After.{cut_after};
+ghost use Rattle.cuts.specs.After.{body_at, cut_after};
 
 use index::RayRecord;
 use sections::Cut;
@@ -163,14 +163,10 @@ pub fn list_into(file: &[u8], c: Cut, t: i32, ray: usize, bin: usize, words: &mu
     stretches::list_from(data_in(file, c), v, product, t, nb, nr, ray, bin, words)
 }
 
-// The cut that follows a cut of an accepted file, by the lengths of its sections: no check is made again.
-pub fn next_cut(file: &[u8], c: Cut) -> Cut
-    ensures { result ≡ cut_after file.now c }
+// The cut whose section 4 stands at a place, under the section 3 at another.
+fn body_at(file: &[u8], section3: usize, section4: usize) -> Cut
+    ensures { result ≡ body_at file.now section3 section4 }
 {
-    let at = sections::end_at(file, c.section7);
-    let own = rules::number_at(file, at) == 3;
-    let section3 = sections::pick(own, at, c.section3);
-    let section4 = sections::pick(own, sections::end_at(file, at), at);
     let section5 = sections::end_at(file, section4);
     let section7 = sections::end_at(file, sections::end_at(file, section5));
     Cut {
@@ -178,5 +174,17 @@ pub fn next_cut(file: &[u8], c: Cut) -> Cut
         section4,
         section5,
         section7,
+    }
+}
+
+// The cut that follows a cut of an accepted file, by the lengths of its sections: no check is made again.
+pub fn next_cut(file: &[u8], c: Cut) -> Cut
+    ensures { result ≡ cut_after file.now c }
+{
+    let at = sections::end_at(file, c.section7);
+    if rules::number_at(file, at) == 3 {
+        body_at(file, at, sections::end_at(file, at))
+    } else {
+        body_at(file, c.section3, at)
     }
 }

@@ -13,14 +13,12 @@ use Rattle.fraction.specs.Quotient.{hundredths}
 use Rattle.runs.specs.Runs.{Decodes}
 use Rattle.lent.specs.Lent.{front}
 use Rattle.bare.specs.Read.{ReadPromise}
-use Rattle.bare.specs.declared.RunRead.{RunRead}
-use Rattle.bare.specs.declared.RunRead.TheVariants as K
 use Rattle.runs.proofs.Meaning.{levels_decode}
 use Rattle.bare.specs.Write.{WritePromise}
-use Rattle.bare.specs.declared.RunWrite.TheVariants.{Wrote}
 use Rattle.bare.proofs.Write.{read_back}
 use Rattle.values.specs.Published.{published}
 use Rattle.values.specs.Reading.{reading_of, mark_of, held_of}
+use Rattle.values.specs.declared.Reading.{Reading}
 use Rattle.values.specs.Ray.{marks_of, values_of}
 use Rattle.values.proofs.Readings.{no_number, its_number, published_near}
 use Rattle.values.proofs.Ray.{mark_at_lem, value_at}
@@ -43,20 +41,15 @@ use Rattle.calls.proofs.ByVerdict.{file_accepted, by_file_verdict, cut_accepted}
 use Rattle.polar.specs.Opening.{summary_of, open_answer, info_of, cut_answer}
 use Rattle.polar.specs.Rays.{ray_on, ray_answer, levels_after, marks_after, values_after, bin_of, bin_on, bin_answer}
 use Rattle.polar.specs.declared.Summary.{Summary}
-use Rattle.polar.specs.declared.Opened.{Opened}
-use Rattle.polar.specs.declared.Opened.TheVariants as O
-use Rattle.polar.specs.declared.CutAnswer.{CutAnswer}
-use Rattle.polar.specs.declared.CutAnswer.TheVariants as C
-use Rattle.calls.specs.declared.RayAnswer.{RayAnswer}
-use Rattle.calls.specs.declared.RayAnswer.TheVariants as R
-use Rattle.calls.specs.declared.BinAnswer.{BinAnswer}
-use Rattle.calls.specs.declared.BinAnswer.TheVariants as B
 use Rattle.polar.specs.Promises.{OpenPromise, CutPromise, LevelsPromise, ValuesPromise, BinPromise}
 use Rattle.demands.proofs.Lent.{front_at, front_past, updated_beyond}
+use Rattle.bare.specs.declared.ReadRefusal.{ReadRefusal}
+use Rattle.polar.specs.declared.CutInfo.{CutInfo}
+use Rattle.std.specs.Prelude.{Err, None, Ok, Option, Result, Some, ⊤, Float}
 
 -- ── accepted exactly ──
 
-pub accepted_open : (s : List ℕ) (cs : List Cut) (r : Opened) → Accepted s cs → OpenPromise s r → r ≡ O.File (summary_of s (length cs) (get_or cs 0 default_cut))
+pub accepted_open : (s : List ℕ) (cs : List Cut) (r : Result Summary Refusal) → Accepted s cs → OpenPromise s r → r ≡ Ok (summary_of s (length cs) (get_or cs 0 default_cut))
 unfolding open_answer
 accepted_open s cs r a p = p.answer ∙ file_accepted base_checks base_format exact s _ _ cs a
 
@@ -65,10 +58,10 @@ pub record AcceptedAs (s : List ℕ) (m : Summary) : Type 0 where
   pub accepts : Accepted s cs
   pub summary : m ≡ summary_of s (length cs) (get_or cs 0 default_cut)
 
-pub open_accepted : (s : List ℕ) (m : Summary) → OpenPromise s (O.File m) → AcceptedAs s m
+pub open_accepted : (s : List ℕ) (m : Summary) → OpenPromise s (Ok m) → AcceptedAs s m
 unfolding open_answer
 open_accepted s m p =
-    by_file_verdict base_checks base_format exact s O.Refused (λ n c. O.File (summary_of s n c)) (O.File m) (AcceptedAs s m)
+    by_file_verdict base_checks base_format exact s Err (λ n c. Ok (summary_of s n c)) (Ok m) (AcceptedAs s m)
     (λ r k e. let z : ◌≡◌ {A = ℕ} 0 1 = cc e in absurd (omega arith))
     (λ cs k e. record { cs = cs; accepts = k; summary = cc e })
     (sym p.answer)
@@ -94,18 +87,18 @@ module _ (s : List ℕ) (cs : List Cut) (a : Accepted s cs) (i : ℕ) (lt : i < 
   unfolding levels_in
   bins_decode = (levels_decode (greatest_in s cut) (data_at s cut.section7) (data_opens s cut good), all_bins s cut good)
 
-  pub cut_answers : (r : CutAnswer) → CutPromise s i r → r ≡ C.Cut (info_of s cut)
+  pub cut_answers : (r : Result CutInfo Refusal) → CutPromise s i r → r ≡ Ok (info_of s cut)
   unfolding cut_answer
   cut_answers r p = p.answer ∙ on_accepted _ _
 
   module _ (ray : ℕ) (h : ray < rays_in s cut) where
-    ray_written : (room : ℕ) → bins_in s cut ≤ room → ray_answer s i ray room ≡ R.Written
+    ray_written : (room : ℕ) → bins_in s cut ≤ room → ray_answer s i ray room ≡ (Ok tt)
     unfolding ray_answer ray_on
     ray_written room k = on_accepted _ _ ∙ rw (lt-ltb ray (rays_in s cut) h, le-leb (bins_in s cut) room k)
 
     -- ray levels: bin b of the ray at place b, and past Nb all as it was
-    pub levels_answer : (out out' : List ℕ) (r : RayAnswer) → bins_in s cut ≤ length out → LevelsPromise s i ray out r out'
-        → (r ≡ R.Written)
+    pub levels_answer : (out out' : List ℕ) (r : Result ⊤ Refusal) → bins_in s cut ≤ length out → LevelsPromise s i ray out r out'
+        → (r ≡ (Ok tt))
         × ((b : ℕ) → b < bins_in s cut → get_or out' b 0 ≡ level_in s cut ray b)
         × ((b : ℕ) → bins_in s cut ≤ b → get_or out' b 0 ≡ get_or out b 0)
     unfolding levels_after
@@ -113,16 +106,16 @@ module _ (s : List ℕ) (cs : List Cut) (a : Accepted s cs) (i : ℕ) (lt : i < 
         let w = p.answer ∙ ray_written (length out) k in
         let n = ray_length s cut good ray h in
         let e : out' ≡ front (ray_in s cut ray) out =
-        p.after ∙ ap (λ (x : RayAnswer). levels_after x s i ray out) w ∙ ap (λ (c : Cut). front (ray_in s c ray) out) cut_is in (
+        p.after ∙ ap (λ (x : Result ⊤ Refusal). levels_after x s i ray out) w ∙ ap (λ (c : Cut). front (ray_in s c ray) out) cut_is in (
           w,
           (λ b in_ray. ap (λ (l : List ℕ). get_or l b 0) e ∙ front_at (ray_in s cut ray) out b (omega arith) ∙ ray_bin s cut good ray h b in_ray),
           (λ b beyond. ap (λ (l : List ℕ). get_or l b 0) e ∙ front_past (ray_in s cut ray) out b (omega arith)),
         )
 
     -- ray values: the mark and the value of bin b's level at place b, and past Nb all as it was
-    pub values_answer : (marks marks' : List ℕ) (values values' : List ℤ) (r : RayAnswer) → bins_in s cut ≤ length marks → bins_in s cut ≤ length values
+    pub values_answer : (marks marks' : List ℕ) (values values' : List ℤ) (r : Result ⊤ Refusal) → bins_in s cut ≤ length marks → bins_in s cut ≤ length values
         → ValuesPromise s i ray marks values r marks' values'
-        → (r ≡ R.Written)
+        → (r ≡ (Ok tt))
         × ((b : ℕ) → b < bins_in s cut → get_or marks' b 0 ≡ mark_of (reading_of (product_in s cut) (level_in s cut ray b)))
         × ((b : ℕ) → b < bins_in s cut → get_or values' b (pos 0) ≡ held_of (reading_of (product_in s cut) (level_in s cut ray b)) (get_or values b (pos 0)))
         × ((b : ℕ) → bins_in s cut ≤ b → (get_or marks' b 0 ≡ get_or marks b 0) × (get_or values' b (pos 0) ≡ get_or values b (pos 0)))
@@ -132,9 +125,9 @@ module _ (s : List ℕ) (cs : List Cut) (a : Accepted s cs) (i : ℕ) (lt : i < 
         let w = p.answer ∙ ray_written (min (length marks) (length values)) (omega arith) in
         let n = ray_length s cut good ray h in
         let em : marks' ≡ marks_of P (ray_in s cut ray) marks =
-        p.marked ∙ ap (λ (x : RayAnswer). marks_after x s i ray marks) w ∙ ap (λ (c : Cut). marks_of (product_in s c) (ray_in s c ray) marks) cut_is in
+        p.marked ∙ ap (λ (x : Result ⊤ Refusal). marks_after x s i ray marks) w ∙ ap (λ (c : Cut). marks_of (product_in s c) (ray_in s c ray) marks) cut_is in
         let ev : values' ≡ values_of P (ray_in s cut ray) values =
-        p.valued ∙ ap (λ (x : RayAnswer). values_after x s i ray values) w ∙ ap (λ (c : Cut). values_of (product_in s c) (ray_in s c ray) values) cut_is in (
+        p.valued ∙ ap (λ (x : Result ⊤ Refusal). values_after x s i ray values) w ∙ ap (λ (c : Cut). values_of (product_in s c) (ray_in s c ray) values) cut_is in (
           w,
           (λ b in_ray.
               ap (λ (l : List ℕ). get_or l b 0) em
@@ -151,7 +144,7 @@ module _ (s : List ℕ) (cs : List Cut) (a : Accepted s cs) (i : ℕ) (lt : i < 
         )
 
     -- bin value: the reading of that bin's level
-    pub bin_answer_lem : (bin : ℕ) (r : BinAnswer) → bin < bins_in s cut → BinPromise s i ray bin r → r ≡ bin_of (reading_of (product_in s cut) (level_in s cut ray bin))
+    pub bin_answer_lem : (bin : ℕ) (r : Result (Option Float) Refusal) → bin < bins_in s cut → BinPromise s i ray bin r → r ≡ Ok (bin_of (reading_of (product_in s cut) (level_in s cut ray bin)))
     unfolding bin_answer bin_on
     bin_answer_lem bin r k p = p.answer ∙ on_accepted _ _ ∙ rw (lt-ltb ray (rays_in s cut) h, lt-ltb bin (bins_in s cut) k)
 
@@ -160,13 +153,13 @@ module _ (s : List ℕ) (cs : List Cut) (a : Accepted s cs) (i : ℕ) (lt : i < 
 module _ (s : List ℕ) (cs : List Cut) (a : Accepted s cs) (i : ℕ) (lt : i < length cs) (ray : ℕ) (h : ray < rays_in s (get_or cs i default_cut)) (bin : ℕ)
     (k : bin < bins_in s (get_or cs i default_cut)) where
   -- level 0: the bin call answers missing, the mark is 0 and the value's place keeps what it held
-  pub missing_bin : level_in s (get_or cs i default_cut) ray bin ≡ 0 → (r : BinAnswer) → BinPromise s i ray bin r → r ≡ B.Missing
+  pub missing_bin : level_in s (get_or cs i default_cut) ray bin ≡ 0 → (r : Result (Option Float) Refusal) → BinPromise s i ray bin r → r ≡ (Ok None)
   unfolding bin_of
   missing_bin z r p =
       bin_answer_lem s cs a i lt ray h bin r k p
-      ∙ ap bin_of (ap (reading_of (product_in s (get_or cs i default_cut))) z ∙ no_number (product_in s (get_or cs i default_cut)))
+      ∙ ap (λ (x : Reading). Ok (bin_of x)) (ap (reading_of (product_in s (get_or cs i default_cut))) z ∙ no_number (product_in s (get_or cs i default_cut)))
 
-  pub missing_values : level_in s (get_or cs i default_cut) ray bin ≡ 0 → (marks marks' : List ℕ) (values values' : List ℤ) (r : RayAnswer)
+  pub missing_values : level_in s (get_or cs i default_cut) ray bin ≡ 0 → (marks marks' : List ℕ) (values values' : List ℤ) (r : Result ⊤ Refusal)
       → bins_in s (get_or cs i default_cut) ≤ length marks → bins_in s (get_or cs i default_cut) ≤ length values → ValuesPromise s i ray marks values r marks' values'
       → (get_or marks' bin 0 ≡ 0) × (get_or values' bin (pos 0) ≡ get_or values bin (pos 0))
   unfolding mark_of held_of
@@ -177,14 +170,14 @@ module _ (s : List ℕ) (cs : List Cut) (a : Accepted s cs) (i : ℕ) (lt : i < 
       (w.1 bin k ∙ ap mark_of e, w.2 bin k ∙ ap (λ x. held_of x (get_or values bin (pos 0))) e)
 
   -- any other level: its published value, in all calls; the float lies within one part in 2^53 of it
-  pub measured_bin : 1 ≤ level_in s (get_or cs i default_cut) ray bin → (r : BinAnswer) → BinPromise s i ray bin r
-      → r ≡ B.Value (hundredths (published (product_in s (get_or cs i default_cut)) (level_in s (get_or cs i default_cut) ray bin)))
+  pub measured_bin : 1 ≤ level_in s (get_or cs i default_cut) ray bin → (r : Result (Option Float) Refusal) → BinPromise s i ray bin r
+      → r ≡ Ok (Some (hundredths (published (product_in s (get_or cs i default_cut)) (level_in s (get_or cs i default_cut) ray bin))))
   unfolding bin_of
   measured_bin one r p =
       bin_answer_lem s cs a i lt ray h bin r k p
-      ∙ ap bin_of (its_number (product_in s (get_or cs i default_cut)) (level_in s (get_or cs i default_cut) ray bin) one)
+      ∙ ap (λ (x : Reading). Ok (bin_of x)) (its_number (product_in s (get_or cs i default_cut)) (level_in s (get_or cs i default_cut) ray bin) one)
 
-  pub measured_values : 1 ≤ level_in s (get_or cs i default_cut) ray bin → (marks marks' : List ℕ) (values values' : List ℤ) (r : RayAnswer)
+  pub measured_values : 1 ≤ level_in s (get_or cs i default_cut) ray bin → (marks marks' : List ℕ) (values values' : List ℤ) (r : Result ⊤ Refusal)
       → bins_in s (get_or cs i default_cut) ≤ length marks → bins_in s (get_or cs i default_cut) ≤ length values → ValuesPromise s i ray marks values r marks' values'
       → (get_or marks' bin 0 ≡ 1) × (get_or values' bin (pos 0) ≡ published (product_in s (get_or cs i default_cut)) (level_in s (get_or cs i default_cut) ray bin))
   unfolding mark_of held_of
@@ -195,17 +188,17 @@ module _ (s : List ℕ) (cs : List Cut) (a : Accepted s cs) (i : ℕ) (lt : i < 
       (w.1 bin k ∙ ap mark_of e, w.2 bin k ∙ ap (λ x. held_of x (get_or values bin (pos 0))) e)
 
   -- the three calls tell the same: the bin value is that of the ray value, which is that of the ray level
-  pub three_calls : (out out' marks marks' : List ℕ) (values values' : List ℤ) (rl rv : RayAnswer) (rb : BinAnswer)
+  pub three_calls : (out out' marks marks' : List ℕ) (values values' : List ℤ) (rl rv : Result ⊤ Refusal) (rb : Result (Option Float) Refusal)
       → bins_in s (get_or cs i default_cut) ≤ length out → bins_in s (get_or cs i default_cut) ≤ length marks → bins_in s (get_or cs i default_cut) ≤ length values
       → LevelsPromise s i ray out rl out' → ValuesPromise s i ray marks values rv marks' values' → BinPromise s i ray bin rb
-      → (rb ≡ bin_of (reading_of (product_in s (get_or cs i default_cut)) (get_or out' bin 0)))
+      → (rb ≡ Ok (bin_of (reading_of (product_in s (get_or cs i default_cut)) (get_or out' bin 0))))
       × (get_or marks' bin 0 ≡ mark_of (reading_of (product_in s (get_or cs i default_cut)) (get_or out' bin 0)))
       × (get_or values' bin (pos 0) ≡ held_of (reading_of (product_in s (get_or cs i default_cut)) (get_or out' bin 0)) (get_or values bin (pos 0)))
   three_calls out out' marks marks' values values' rl rv rb ko km kv pl pv pb =
       let P = product_in s (get_or cs i default_cut) in
       let l = sym ((levels_answer s cs a i lt ray h out out' rl ko pl).1 bin k) in
       let w = values_answer s cs a i lt ray h marks marks' values values' rv km kv pv in (
-        bin_answer_lem s cs a i lt ray h bin rb k pb ∙ ap (λ (x : ℕ). bin_of (reading_of P x)) l,
+        bin_answer_lem s cs a i lt ray h bin rb k pb ∙ ap (λ (x : ℕ). Ok (bin_of (reading_of P x))) l,
         w.1 bin k ∙ ap (λ (x : ℕ). mark_of (reading_of P x)) l,
         w.2 bin k ∙ ap (λ (x : ℕ). held_of (reading_of P x) (get_or values bin (pos 0))) l,
       )
@@ -221,7 +214,7 @@ module _ (s : List ℕ) (cs : List Cut) (a : Accepted s cs) (i : ℕ) (lt : i < 
 -- ── read back ──
 
 -- what run write writes, read with the V it answers, gives the same levels
-pub written_reads_back : {levels octets octets' : List ℕ} {v n : ℕ} → WritePromise levels octets (Wrote v n) octets'
-    → {room room' : List ℕ} {r : RunRead} → length levels ≤ length room → ReadPromise v (length levels) (take n octets') room r room'
-    → (r ≡ K.Read) × (room' ≡ front levels room)
+pub written_reads_back : {levels octets octets' : List ℕ} {v n : ℕ} → WritePromise levels octets (Ok (record { v = v; len = n })) octets'
+    → {room room' : List ℕ} {r : Result ⊤ ReadRefusal} → length levels ≤ length room → ReadPromise v (length levels) (take n octets') room r room'
+    → (r ≡ (Ok tt)) × (room' ≡ front levels room)
 written_reads_back w room p = read_back w room p

@@ -29,12 +29,12 @@ use Rattle.stretches.proofs.Answers.{count_is, words_front}
 use Rattle.stretches.proofs.Laws.{length_words, words_same}
 use Rattle.cuts.specs.Bins.{stretches_in}
 use Rattle.polar.specs.Stretching.{stretches_on, stretch_answer, words_after}
-use Rattle.polar.specs.declared.StretchAnswer.{StretchAnswer}
-use Rattle.polar.specs.declared.StretchAnswer.TheVariants as S
 use Rattle.calls.specs.Cuts.{judged}
 use Rattle.polar.specs.Promises.{StretchesPromise}
 use Rattle.demands.specs.Fetching.{Fetched, none, call}
 use Rattle.demands.proofs.Demand2.{on_accepted, cut_is}
+use Rattle.sections.specs.declared.Refusal.{Refusal}
+use Rattle.std.specs.Prelude.{Err, Ok, Result}
 
 module _ (s : List ℕ) (cs : List Cut) (a : Accepted s cs) (i : ℕ) (lt : i < length cs) (t : ℤ) where
   -- the cut, and its list from a point on
@@ -71,17 +71,17 @@ module _ (s : List ℕ) (cs : List Cut) (a : Accepted s cs) (i : ℕ) (lt : i < 
   -- ── the call ──
 
   pub call_lists : right_t t ≡ true → (ray bin : ℕ) → right_point (bins_in s (get_or cs i default_cut)) (rays_in s (get_or cs i default_cut)) ray bin ≡ true
-      → (words words' : List ℕ) (r : StretchAnswer) → per_entry ≤ length words → StretchesPromise s i t ray bin words r words'
-      → (r ≡ S.Listed (answer_of (rays_in s (get_or cs i default_cut)) (length words) (list_of ray bin)))
+      → (words words' : List ℕ) (r : Result Listing Refusal) → per_entry ≤ length words → StretchesPromise s i t ray bin words r words'
+      → (r ≡ Ok (answer_of (rays_in s (get_or cs i default_cut)) (length words) (list_of ray bin)))
       × (words' ≡ front (words_of (fitting (length words) (list_of ray bin))) words)
   unfolding stretch_answer stretches_on words_after
   call_lists ht ray bin hp words words' r room p =
       let c = get_or cs i default_cut in
-      let e : r ≡ S.Listed (answer_of (rays_in s c) (length words) (list_of ray bin)) =
+      let e : r ≡ Ok (answer_of (rays_in s c) (length words) (list_of ray bin)) =
       p.answer ∙ on_accepted s cs a i lt _ _ ∙ rw (ht, hp, le-leb per_entry (length words) room) in (
         e,
         p.after
-            ∙ ap (λ (x : StretchAnswer). words_after x s i t ray bin words) e
+            ∙ ap (λ (x : Result Listing Refusal). words_after x s i t ray bin words) e
             ∙ ap (λ (x : Cut). out_of words (stretches_in s x t ray bin)) (cut_is s cs a i lt)
             ∙ words_front words (list_of ray bin),
       )
@@ -102,14 +102,14 @@ module _ (s : List ℕ) (cs : List Cut) (a : Accepted s cs) (i : ℕ) (lt : i < 
     pub answer : l ≡ answer_of (rays_in s (get_or cs i default_cut)) (length words) (list_of ray bin)
     pub after : words' ≡ front (words_of (fitting (length words) (list_of ray bin))) words
 
-  listing_is : (ray bin : ℕ) (words words' : List ℕ) (l : Listing) → StretchesPromise s i t ray bin words (S.Listed l) words' → Listing-is ray bin words words' l
+  listing_is : (ray bin : ℕ) (words words' : List ℕ) (l : Listing) → StretchesPromise s i t ray bin words (Ok l) words' → Listing-is ray bin words words' l
   unfolding stretch_answer stretches_on words_after
   listing_is ray bin words words' l p =
       let c = get_or cs i default_cut in
       go (right_t t && right_point (bins_in s c) (rays_in s c) ray bin) (leb per_entry (length words)) refl (p.answer ∙ on_accepted s cs a i lt _ _)
     where
       go : (b u : Bool) → leb per_entry (length words) ≡ u
-          → S.Listed l ≡ judged S.Refused (get_or cs i default_cut) b u true (S.Listed (answer_of (rays_in s (get_or cs i default_cut)) (length words) (stretches_in s (get_or cs i default_cut) t ray bin)))
+          → Ok l ≡ judged Err (get_or cs i default_cut) b u true (Ok (answer_of (rays_in s (get_or cs i default_cut)) (length words) (stretches_in s (get_or cs i default_cut) t ray bin)))
           → Listing-is ray bin words words' l
       go true true e h =
           record {
@@ -214,7 +214,7 @@ module _ (s : List ℕ) (cs : List Cut) (a : Accepted s cs) (i : ℕ) (lt : i < 
 
   -- one call more, at the point where calls ended
   one_more : (n ray bin ray' bin' : ℕ) (es fs : List Entry) (words words' : List ℕ) (l : Listing) → Fetched s i t n ray bin es ray' bin'
-      → StretchesPromise s i t ray' bin' words (S.Listed l) words' → words_of fs ≡ take (per_entry * l.count) words'
+      → StretchesPromise s i t ray' bin' words (Ok l) words' → words_of fs ≡ take (per_entry * l.count) words'
       → Fetched s i t (suc n) ray bin (es ++ fs) l.ray l.bin
   one_more n ray bin ray' bin' es fs words words' l none p h =
       subst (λ (x : List Entry). Fetched s i t 1 ray bin x l.ray l.bin) (append-nil fs) (call fs p h none)
@@ -223,17 +223,17 @@ module _ (s : List ℕ) (cs : List Cut) (a : Accepted s cs) (i : ℕ) (lt : i < 
       (call es q e (one_more m k.ray k.bin ray' bin' gs fs words words' l f p h))
 
   -- after n calls from (ray, bin), which handed over the entries es, a call that answers r is one call more: it lists, and the point that it hands back may be asked for next
-  pub record GoesOn (n ray bin : ℕ) (es : List Entry) (r : StretchAnswer) : Type 0 where
+  pub record GoesOn (n ray bin : ℕ) (es : List Entry) (r : Result Listing Refusal) : Type 0 where
     pub listing : Listing
     pub handed_over : List Entry
-    pub lists : r ≡ S.Listed listing
+    pub lists : r ≡ Ok listing
     pub fetched : Fetched s i t (suc n) ray bin (es ++ handed_over) listing.ray listing.bin
     pub next : right_point (bins_in s (get_or cs i default_cut)) (rays_in s (get_or cs i default_cut)) listing.ray listing.bin ≡ true
 
   -- with a permitted threshold, from a point that may be asked for, as (0, 0), and with room for an entry: whatever outcome the promise allows
   pub fetching_goes_on : right_t t ≡ true → (n ray bin ray' bin' : ℕ) (es : List Entry)
       → right_point (bins_in s (get_or cs i default_cut)) (rays_in s (get_or cs i default_cut)) ray bin ≡ true → Fetched s i t n ray bin es ray' bin'
-      → (words words' : List ℕ) (r : StretchAnswer) → per_entry ≤ length words → StretchesPromise s i t ray' bin' words r words' → GoesOn n ray bin es r
+      → (words words' : List ℕ) (r : Result Listing Refusal) → per_entry ≤ length words → StretchesPromise s i t ray' bin' words r words' → GoesOn n ray bin es r
   fetching_goes_on ht n ray bin ray' bin' es start f words words' r room p =
       let nr = rays_in s (get_or cs i default_cut) in
       let L = list_of ray' bin' in
@@ -247,6 +247,6 @@ module _ (s : List ℕ) (cs : List Cut) (a : Accepted s cs) (i : ℕ) (lt : i < 
         listing = l;
         handed_over = fs;
         lists = k.0;
-        fetched = one_more n ray bin ray' bin' es fs words words' l f (subst (λ (x : StretchAnswer). StretchesPromise s i t ray' bin' words x words') k.0 p) (sym words_are);
+        fetched = one_more n ray bin ray' bin' es fs words words' l f (subst (λ (x : Result Listing Refusal). StretchesPromise s i t ray' bin' words x words') k.0 p) (sym words_are);
         next = next_asked ray' bin' (length words);
       }

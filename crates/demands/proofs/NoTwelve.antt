@@ -15,10 +15,7 @@ use Rattle.runs.specs.Runs.{AtFault}
 use Rattle.runs.proofs.Fault.{gives_fault, fault_gives, fault_only}
 use Rattle.bare.specs.Read.{ReadPromise, CheckPromise}
 use Rattle.bare.specs.Reasons.{ReadReason, CheckReason}
-use Rattle.bare.specs.declared.RunRead.TheVariants as R
 use Rattle.bare.specs.declared.ReadRefusal.TheVariants as F
-use Rattle.bare.specs.declared.RunCheck.{RunCheck}
-use Rattle.bare.specs.declared.RunCheck.TheVariants as K
 use Rattle.bare.specs.declared.CheckRefusal.TheVariants as C
 use Rattle.bare.proofs.Reasons.{read_reason, check_reason, reason_check}
 use Rattle.sections.specs.Refusal.{number_of, refuse}
@@ -28,7 +25,6 @@ use Rattle.sections.specs.Refused.{FirstFails, this, later, Passed}
 use Rattle.sections.specs.Verdict.{end_of, first_fault}
 use Rattle.sections.specs.declared.Refusal.{Refusal}
 use Rattle.sections.specs.declared.Why.TheVariants.{Data}
-use Rattle.sections.specs.declared.Judged.TheVariants as J
 use Rattle.sections.proofs.Framed.{framed_is}
 use Rattle.sections.proofs.Numbers.{numbered}
 use Rattle.sections.proofs.Order.{before_seven}
@@ -37,6 +33,8 @@ use Rattle.base_format.specs.Fields.{greatest_at}
 use Rattle.base_format.specs.Parts.{data_at}
 use Rattle.base_format.specs.Checks.{checks7}
 use Rattle.base_format.proofs.Held.{LikeBase, held_few, held_low}
+use Rattle.bare.specs.declared.CheckRefusal.{CheckRefusal}
+use Rattle.std.specs.Prelude.{Err, Ok, Result, ⊤}
 
 pub not_twelve : (r : Refusal) → number_of r.why ≡ 12 → ⊥
 not_twelve r = (numbered r.why).not_twelve
@@ -66,13 +64,13 @@ module _ (own : FormatChecks) (like : LikeBase own) (s : List ℕ) (seen : List 
   few : bins ≤ 2097152
   few = let six = six in held_few own like s h.passed (omega arith)
 
-  pub read_not_twelve : (d out : List ℕ) → ReadPromise v bins (data_at s at) d (R.Refused F.V) out → ⊥
+  pub read_not_twelve : (d out : List ℕ) → ReadPromise v bins (data_at s at) d (Err F.V) out → ⊥
   read_not_twelve d out p = go (read_reason v bins (data_at s at) d out F.V p)
     where
       go : ReadReason v bins (length d) (data_at s at) F.V → ⊥
       go (ReadReason.by_v over) = let v_low = low in omega arith
 
-  pub check_not_twelve : CheckPromise v bins (data_at s at) (K.Refused C.V) → ⊥
+  pub check_not_twelve : CheckPromise v bins (data_at s at) (Err C.V) → ⊥
   check_not_twelve p = go (check_reason v bins (data_at s at) C.V p)
     where
       go : CheckReason v bins (data_at s at) C.V → ⊥
@@ -84,7 +82,7 @@ module _ (own : FormatChecks) (like : LikeBase own) (s : List ℕ) (seen : List 
     sevens = checks7 s (context_of seen at) at
 
     -- what the checks of a section 7 find, by what its data gives
-    given : gives v bins (data_at s at) ≡ true → first_fault sevens ≡ J.Accepted
+    given : gives v bins (data_at s at) ≡ true → first_fault sevens ≡ (Ok tt)
     unfolding context_of
     given e = rw (le-leb 6 (length_at s at) long, e)
 
@@ -96,21 +94,21 @@ module _ (own : FormatChecks) (like : LikeBase own) (s : List ℕ) (seen : List 
     same_place : (q r : Refusal) → FirstFails q sevens → FirstFails r sevens → q.place ≡ r.place
     same_place q r f g = let e = sym (first_wrong sevens q f) ∙ first_wrong sevens r g in ap (λ (x : Refusal). x.place) (let same : q ≡ r = cc e in same)
 
-    module _ (i : ℕ) (a : RunCheck) (p : CheckPromise v bins (data_at s at) a) where
-      to_file : a ≡ K.Refused (C.Data i) → FirstFails (refuse Data (at + 5 + i)) sevens
+    module _ (i : ℕ) (a : Result ⊤ CheckRefusal) (p : CheckPromise v bins (data_at s at) a) where
+      to_file : a ≡ Err (C.Data i) → FirstFails (refuse Data (at + 5 + i)) sevens
       to_file e = go (check_reason v bins (data_at s at) (C.Data i) (rw (sym e) p))
         where
           go : CheckReason v bins (data_at s at) (C.Data i) → FirstFails (refuse Data (at + 5 + i)) sevens
           go (CheckReason.by_data x y f) = rw (fault_only v bins i (data_at s at) f) (fails ((fault_gives v bins (data_at s at)).0 (i, f)))
 
-      of_file : (g : Bool) → gives v bins (data_at s at) ≡ g → FirstFails (refuse Data (at + 5 + i)) sevens → a ≡ K.Refused (C.Data i)
+      of_file : (g : Bool) → gives v bins (data_at s at) ≡ g → FirstFails (refuse Data (at + 5 + i)) sevens → a ≡ Err (C.Data i)
       unfolding refuse
-      of_file true e f = let z : J.Accepted ≡ J.Refused (refuse Data (at + 5 + i)) = sym (given e) ∙ first_wrong sevens _ f in
+      of_file true e f = let z : (Ok tt) ≡ Err (refuse Data (at + 5 + i)) = sym (given e) ∙ first_wrong sevens _ f in
           let wrong : ◌≡◌ {A = ℕ} 0 1 = cc z in absurd (omega arith)
       of_file false e f =
           let one = same_place _ _ f (fails e) in
           let is : fault_at v bins (data_at s at) ≡ i = omega arith in
           reason_check v bins (data_at s at) (C.Data i) a (CheckReason.by_data (let l = low in omega arith) few (subst (AtFault v bins (data_at s at)) is (gives_fault v bins (data_at s at) e))) p
 
-      pub same_eight : (a ≡ K.Refused (C.Data i)) ↔ FirstFails (refuse Data (at + 5 + i)) sevens
+      pub same_eight : (a ≡ Err (C.Data i)) ↔ FirstFails (refuse Data (at + 5 + i)) sevens
       same_eight = (to_file, of_file (gives v bins (data_at s at)) refl)

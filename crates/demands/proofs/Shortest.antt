@@ -15,10 +15,7 @@ use Rattle.packing.proofs.Shortest.{shortest, greatest_le, written_le}
 use Rattle.bare.specs.Read.{ReadPromise}
 use Rattle.bare.specs.Write.{write_answer, write_out, WritePromise}
 use Rattle.bare.specs.Reasons.{WriteReason}
-use Rattle.bare.specs.declared.RunRead.TheVariants.{Read}
 use Rattle.bare.specs.declared.WriteRefusal.{WriteRefusal}
-use Rattle.bare.specs.declared.RunWrite.{RunWrite}
-use Rattle.bare.specs.declared.RunWrite.TheVariants.{Wrote}
 use Rattle.bare.proofs.Reasons.{read_gives, write_tells, write_answered}
 use Rattle.bare.proofs.Write.{wrote}
 use Rattle.rules.specs.Fields.{length_at}
@@ -29,18 +26,20 @@ use Rattle.base_format.proofs.GoodCuts.{good_accepted}
 use Rattle.sections.specs.Verdict.{default_cut}
 use Rattle.sections.specs.declared.Cut.{Cut}
 use Rattle.cuts.proofs.Places.{greatest_small, all_bins, few_bins}
+use Rattle.bare.specs.declared.Wrote.{Wrote}
+use Rattle.std.specs.Prelude.{Ok, Result}
 
 -- run write wrote n octets for the levels s
-module _ {s d out : List ℕ} {v n : ℕ} (w : WritePromise s d (Wrote v n) out) where
+module _ {s d out : List ℕ} {v n : ℕ} (w : WritePromise s d (Ok (record { v = v; len = n })) out) where
   n_is : n ≡ length (packed s)
-  n_is = cc (write_tells s d out v n w)
+  n_is = let same : ◌≡◌ {A = Wrote} (record { v = v; len = n }) (record { v = greatest s; len = length (packed s) }) = cc (write_tells s d out v n w) in λ i. (same i).len
 
   -- octets that decode to just these levels, under the V that it answered or under any other, are at least n
   pub no_shorter : (u : ℕ) (t : List ℕ) → ((i : ℕ) → get_or t i 0 < 256) → levels u t ≡ s → n ≤ length t
   no_shorter u t small e = omega (arith, n_is, ap (λ (l : List ℕ). length (packed l)) e, shortest u t small)
 
   -- and so are octets that run read reads back as these levels
-  pub none_read_shorter : (u : ℕ) (t : List ℕ) → ((i : ℕ) → get_or t i 0 < 256) → {d' out' : List ℕ} → ReadPromise u (length s) t d' Read out' → take (length s) out' ≡ s → n ≤ length t
+  pub none_read_shorter : (u : ℕ) (t : List ℕ) → ((i : ℕ) → get_or t i 0 < 256) → {d' out' : List ℕ} → ReadPromise u (length s) t d' (Ok tt) out' → take (length s) out' ≡ s → n ≤ length t
   none_read_shorter u t small {d'} {out'} p back =
       let count = (gives_true u (length s) t (read_gives u (length s) t d' out' p)).1 in
       no_shorter u t small (sym (take-append_seam (levels u t) (drop (length (levels u t)) d')) ∙ (λ i. take (count i) (sym p.held i)) ∙ back)
@@ -96,20 +95,20 @@ module _ (s : List ℕ) (small : (i : ℕ) → get_or s i 0 < 256) (cs : List Cu
   never fits q (WriteReason.by_room _ _ h) = omega (arith, no_more)
 
   -- its levels, handed to run write with as much room as its data takes, are written, and in no more octets than that data
-  pub repacked : {d out : List ℕ} {r : RunWrite} → length its_data ≤ length d → WritePromise (levels_in s cut) d r out → (v : ℕ) × (n : ℕ) × (r ≡ Wrote v n) × (n ≤ length its_data)
+  pub repacked : {d out : List ℕ} {r : Result Wrote WriteRefusal} → length its_data ≤ length d → WritePromise (levels_in s cut) d r out → (v : ℕ) × (n : ℕ) × (r ≡ Ok (record { v = v; len = n })) × (n ≤ length its_data)
   repacked {d} {out} {r} fits w = (greatest (levels_in s cut), length (packed (levels_in s cut)), (write_answered (levels_in s cut) d out r w).1 (never fits), no_more)
 
 -- ── small samples ──
 
 -- as many octets there may be: two 7s are written `7 9`, and under V = 7 `7 7` gives them too
-pub two_sevens : (r : RunWrite) (out : List ℕ) → WritePromise (7 ∷ 7 ∷ []) (0 ∷ 0 ∷ []) r out → (r ≡ Wrote 7 2) × (out ≡ 7 ∷ 9 ∷ []) × (levels 7 (7 ∷ 7 ∷ []) ≡ 7 ∷ 7 ∷ [])
+pub two_sevens : (r : Result Wrote WriteRefusal) (out : List ℕ) → WritePromise (7 ∷ 7 ∷ []) (0 ∷ 0 ∷ []) r out → (r ≡ Ok (record { v = 7; len = 2 })) × (out ≡ 7 ∷ 9 ∷ []) × (levels 7 (7 ∷ 7 ∷ []) ≡ 7 ∷ 7 ∷ [])
 unfolding write_answer greatest written on_from code digits_of digits_up_to levels digit_sum
-two_sevens r out p = (p.answered, p.held ∙ ap (λ (x : RunWrite). write_out x (packed (7 ∷ 7 ∷ [])) (0 ∷ 0 ∷ [])) p.answered, refl)
+two_sevens r out p = (p.answered, p.held ∙ ap (λ (x : Result Wrote WriteRefusal). write_out x (packed (7 ∷ 7 ∷ [])) (0 ∷ 0 ∷ [])) p.answered, refl)
 
 -- ten 7s are written `7 17`
-pub ten_sevens : (r : RunWrite) (out : List ℕ) → WritePromise (replicate 10 7) (0 ∷ 0 ∷ 5 ∷ []) r out → (r ≡ Wrote 7 2) × (out ≡ 7 ∷ 17 ∷ 5 ∷ [])
+pub ten_sevens : (r : Result Wrote WriteRefusal) (out : List ℕ) → WritePromise (replicate 10 7) (0 ∷ 0 ∷ 5 ∷ []) r out → (r ≡ Ok (record { v = 7; len = 2 })) × (out ≡ 7 ∷ 17 ∷ 5 ∷ [])
 unfolding write_answer greatest written on_from code digits_of digits_up_to
-ten_sevens r out p = (p.answered, p.held ∙ ap (λ (x : RunWrite). write_out x (packed (replicate 10 7)) (0 ∷ 0 ∷ 5 ∷ [])) p.answered)
+ten_sevens r out p = (p.answered, p.held ∙ ap (λ (x : Result Wrote WriteRefusal). write_out x (packed (replicate 10 7)) (0 ∷ 0 ∷ 5 ∷ [])) p.answered)
 
 -- A zero digit at the end, a run cut in two, a V over the greatest level: each reads back as ten 7s, so that demand 2 allows it ..
 pub longer_reads_back : (levels 7 (7 ∷ 17 ∷ 8 ∷ []) ≡ replicate 10 7) × (levels 7 (7 ∷ 7 ∷ 16 ∷ []) ≡ replicate 10 7) × (levels 252 (7 ∷ 253 ∷ 253 ∷ 254 ∷ []) ≡ replicate 10 7)

@@ -15,7 +15,7 @@ ghost use Rattle.dual_format.specs.Rules.{rules3, scan_rules, rules4, rules5, wi
 ghost use Rattle.dual_format.specs.Fields.{site_at, with_lists, reference_at, binary_scale_at, decimal_scale_at, width_at, length7};
 ghost use Rattle.dual_format.specs.Checks.{checks3, checks4, checks5, checks7, dual_checks};
 
-use sections::{Context, Judged, Why};
+use sections::{Context, Refusal, Why};
 
 // The field rules of each section, as one chain of tests without branches.
 
@@ -104,111 +104,85 @@ pub fn width_at(s: &[u8], at: usize) -> u8
 
 // The lengths that sections must have.
 
-fn wide8(x: u8) -> u64
-    ensures { result ≡ x }
-{
-    x as u64
-}
-
 // A section of n octets with two lists, each there where its flag, in octet k or l, is 1.
 fn with_lists(s: &[u8], at: usize, n: u8, k: u8, l: u8, rays: u32) -> u64
     ensures { result ≡ with_lists n k l s.now at rays }
 {
-    let flags = wide8(rules::field8(s, at, k)) + wide8(rules::field8(s, at, l));
-    wide8(n) + 2 * flags * rules::wide(rays)
+    let flags = rules::field8(s, at, k) as u64 + rules::field8(s, at, l) as u64;
+    n as u64 + 2 * flags * rays as u64
 }
 
 fn length7_at(s: &[u8], section3: usize, section5: usize) -> u64
     requires { points_at s.now section3 ≤ 2097152 }
     ensures { result ≡ length7 (points_at s.now section3) (width_at s.now section5) }
 {
-    5 + rules::points_at(s, section3) * wide8(width_at(s, section5)) / 8
+    5 + rules::points_at(s, section3) * width_at(s, section5) as u64 / 8
 }
 
 // Each kind of section: first whether it is long enough, then its fields, which are read in the part of the file that they stand in. In a part of a
 // known length no field needs a test of its own.
 
-fn judge3(s: &[u8], at: usize) -> Judged
+fn judge3(s: &[u8], at: usize) -> Result<(), Refusal>
     requires { at + length_at s.now at ≤ length s.now }
     ensures { result ≡ first_fault (checks3 s.now at) }
 {
     let len = rules::wide(rules::length_at(s, at));
-    if len < 58 {
-        return sections::refused(Why::SectionLength, at);
-    }
-    let to = at + 58;
-    let part = &s[at..to];
-    let rays = rules::rays_at(part, 0);
-    let due = with_lists(part, 0, 58, 53, 54, rays);
-    let fields = fields3(part, 0);
-    let scan = scan_fields(part, 0);
+    sections::check(58 <= len, Why::SectionLength, at)?;
+    let part = &s[at..at + 58];
+    let due = with_lists(part, 0, 58, 53, 54, rules::rays_at(part, 0));
+    sections::check(len == due, Why::SectionLength, at)?;
+    sections::check(fields3(part, 0), Why::Field, at)?;
+    sections::check(scan_fields(part, 0), Why::Unread, at)?;
     let said = rules::wide(rules::field32(part, 0, 7));
-    let points = rules::points_of(rules::bins_at(part, 0), rays);
-    let last = sections::check(said == points, Why::Points, at, sections::accepted());
-    let past5 = sections::check(scan, Why::Unread, at, last);
-    let past4 = sections::check(fields, Why::Field, at, past5);
-    sections::check(len == due, Why::SectionLength, at, past4)
+    sections::check(said == rules::points_at(part, 0), Why::Points, at)
 }
 
-fn judge4(s: &[u8], x: Context, at: usize) -> Judged
+fn judge4(s: &[u8], x: Context, at: usize) -> Result<(), Refusal>
     requires { at + length_at s.now at ≤ length s.now }
     ensures { result ≡ first_fault (checks4 s.now x at) }
 {
     let len = rules::wide(rules::length_at(s, at));
-    if len < 61 {
-        return sections::refused(Why::SectionLength, at);
-    }
-    let to = at + 61;
-    let part = &s[at..to];
+    sections::check(61 <= len, Why::SectionLength, at)?;
+    let part = &s[at..at + 61];
     let due = with_lists(part, 0, 61, 56, 57, rules::rays_at(s, x.section3));
+    sections::check(due <= len, Why::SectionLength, at)?;
     let parameter = rules::parameter_at(s, x.first);
     let site = site_at(s, x.first);
-    let fields = fields4(part, 0, parameter, site);
-    let past4 = sections::check(fields, Why::Field, at, sections::accepted());
-    sections::check(due <= len, Why::SectionLength, at, past4)
+    sections::check(fields4(part, 0, parameter, site), Why::Field, at)
 }
 
-fn judge5(s: &[u8], x: Context, at: usize) -> Judged
+fn judge5(s: &[u8], x: Context, at: usize) -> Result<(), Refusal>
     requires { at + length_at s.now at ≤ length s.now }
     ensures { result ≡ first_fault (checks5 s.now x at) }
 {
-    if rules::length_at(s, at) != 21 {
-        return sections::refused(Why::SectionLength, at);
-    }
-    let to = at + 21;
-    let part = &s[at..to];
-    let named = fields5(part, 0);
-    let packing = packing_ok(part, 0);
+    sections::check(rules::length_at(s, at) == 21, Why::SectionLength, at)?;
+    let part = &s[at..at + 21];
+    sections::check(fields5(part, 0), Why::Field, at)?;
+    sections::check(packing_ok(part, 0), Why::Unread, at)?;
     let said = rules::wide(rules::field32(part, 0, 6));
     let points = rules::points_at(s, x.section3);
-    let last = sections::check(said == points, Why::Points, at, sections::accepted());
-    let past5 = sections::check(packing, Why::Unread, at, last);
-    sections::check(named, Why::Field, at, past5)
+    sections::check(said == points, Why::Points, at)
 }
 
-pub fn judge7(s: &[u8], x: Context, at: usize) -> Judged
+pub fn judge7(s: &[u8], x: Context, at: usize) -> Result<(), Refusal>
     requires { points_at s.now x.section3 ≤ 2097152 }
     ensures { result ≡ first_fault (checks7 s.now x at) }
 {
     let len = rules::wide(rules::length_at(s, at));
     let due = length7_at(s, x.section3, x.section5);
-    sections::check(len == due, Why::SectionLength, at, sections::accepted())
+    sections::check(len == due, Why::SectionLength, at)
 }
 
 // The checks of a section of the format's own other than a 7, which has its function above.
-pub fn judge(s: &[u8], x: Context, at: usize, n: u8) -> Judged
+pub fn judge(s: &[u8], x: Context, at: usize, n: u8) -> Result<(), Refusal>
     requires at_in_bounds { at + length_at s.now at ≤ length s.now }
     requires fact { n ≡ 7 → ⊥ }
     ensures { result ≡ first_fault (dual_checks s.now x at n) }
 {
-    if n == 3 {
-        return judge3(s, at);
+    match n {
+        3 => judge3(s, at),
+        4 => judge4(s, x, at),
+        5 => judge5(s, x, at),
+        _ => Ok(()),
     }
-    if n == 4 {
-        return judge4(s, x, at);
-    }
-    if n == 5 {
-        return judge5(s, x, at);
-    }
-    Judged::Accepted
 }

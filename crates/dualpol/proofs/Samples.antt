@@ -25,13 +25,10 @@ use Rattle.dual_format.specs.Checks.{dual_checks}
 use Rattle.dual_format.specs.Verdict.{verdict}
 use Rattle.dual_format.specs.Parts.{reference_in, binary_scale_in, decimal_scale_in, width_in, cell_in, told_in}
 use Rattle.calls.specs.Cuts.{on_file, on_cut}
-use Rattle.calls.specs.declared.BinAnswer.{BinAnswer}
-use Rattle.calls.specs.declared.BinAnswer.TheVariants as B
-use Rattle.dualpol.specs.Answers.{summary_of, open_answer, OpenPromise, cut_answer, CutPromise, bin_of, bin_on, bin_answer, BinPromise}
-use Rattle.dualpol.specs.declared.DualOpened.{DualOpened}
-use Rattle.dualpol.specs.declared.DualOpened.TheVariants as O
-use Rattle.dualpol.specs.declared.DualCut.{DualCut}
-use Rattle.dualpol.specs.declared.DualCut.TheVariants as C
+use Rattle.dualpol.specs.Answers.{summary_of, open_answer, OpenPromise, cut_answer, CutPromise, bin_on, bin_answer, BinPromise}
+use Rattle.dualpol.specs.declared.DualSummary.{DualSummary}
+use Rattle.sections.specs.declared.Grid.{Grid}
+use Rattle.std.specs.Prelude.{Err, None, Ok, Option, Result, Some, Float}
 
 -- ── the sections ──
 
@@ -167,66 +164,66 @@ verdicts =
 
 -- ── the promises on them ──
 
-open_by : (s : List ℕ) (q : Refusal) → verdict s ≡ refused q → (r : DualOpened) → OpenPromise s r → r ≡ O.Refused q
+open_by : (s : List ℕ) (q : Refusal) → verdict s ≡ refused q → (r : Result DualSummary Refusal) → OpenPromise s r → r ≡ Err q
 unfolding open_answer on_file
-open_by s q h r p = p ∙ ap (on_file O.Refused (λ n c. O.File (summary_of s n c))) h
+open_by s q h r p = p ∙ ap (on_file Err (λ n c. Ok (summary_of s n c))) h
 
 -- 14 tested before 5
-pub field_before_unread : (r : DualOpened) → OpenPromise field_unread_points r → r ≡ O.Refused (refuse Field 162)
+pub field_before_unread : (r : Result DualSummary Refusal) → OpenPromise field_unread_points r → r ≡ Err (refuse Field 162)
 field_before_unread = open_by field_unread_points _ verdicts.field_first
 
 -- 6 tested before 14; a width of 64 taken
-pub unread_before_points : (r : DualOpened) → OpenPromise unread_points r → r ≡ O.Refused (refuse Unread 162)
+pub unread_before_points : (r : Result DualSummary Refusal) → OpenPromise unread_points r → r ≡ Err (refuse Unread 162)
 unread_before_points = open_by unread_points _ verdicts.unread_next
 
 -- an RHI scan taken
-pub rhi_unread : (r : DualOpened) → OpenPromise rhi r → r ≡ O.Refused (refuse Unread 37)
+pub rhi_unread : (r : Result DualSummary Refusal) → OpenPromise rhi r → r ≡ Err (refuse Unread 37)
 rhi_unread = open_by rhi _ verdicts.no_rhi
 
 -- octet 40 not judged
-pub octet_40_unread : (r : DualOpened) → OpenPromise octet_40_said r → r ≡ O.Refused (refuse Unread 37)
+pub octet_40_unread : (r : Result DualSummary Refusal) → OpenPromise octet_40_said r → r ≡ Err (refuse Unread 37)
 octet_40_unread = open_by octet_40_said _ verdicts.no_octet_40
 
 -- a section 4 of any length taken; its lists not counted
-pub length_of_4 : (r : DualOpened) → OpenPromise four_short r → r ≡ O.Refused (refuse SectionLength 99)
+pub length_of_4 : (r : Result DualSummary Refusal) → OpenPromise four_short r → r ≡ Err (refuse SectionLength 99)
 length_of_4 = open_by four_short _ verdicts.length_4
 
 -- too few cells taken
-pub length_of_7 : (r : DualOpened) → OpenPromise cells_short r → r ≡ O.Refused (refuse SectionLength 189)
+pub length_of_7 : (r : Result DualSummary Refusal) → OpenPromise cells_short r → r ≡ Err (refuse SectionLength 189)
 length_of_7 = open_by cells_short _ verdicts.length_7
 
 -- a wrong time or count; the site from the base format's octets; a parameter of the base format alone; a section 4 of 61 octets only; no list for each ray
-pub open_cells : (r : DualOpened) → OpenPromise four_cells r
-    → r ≡ O.File (record { parameter = 195; time = record { year = 2026; month = 6; day = 14; hour = 3; minute = 40; second = 59 }; site = 47695; cuts = 1 })
+pub open_cells : (r : Result DualSummary Refusal) → OpenPromise four_cells r
+    → r ≡ Ok (record { parameter = 195; time = record { year = 2026; month = 6; day = 14; hour = 3; minute = 40; second = 59 }; site = 47695; cuts = 1 })
 unfolding in_octets open_answer on_file time_of parameter_at site_at field be
-open_cells r p = p ∙ ap (on_file O.Refused (λ n c. O.File (summary_of four_cells n c))) verdicts.cells_are
+open_cells r p = p ∙ ap (on_file Err (λ n c. Ok (summary_of four_cells n c))) verdicts.cells_are
 
 -- latitude as two's complement
-pub cut_cells : (r : DualCut) → CutPromise four_cells 0 r → r ≡ C.Cut (record { nb = 2; nr = 2; latitude = negsuc 4; longitude = 139959722; dx = 250000; dstart = 125 })
+pub cut_cells : (r : Result Grid Refusal) → CutPromise four_cells 0 r → r ≡ Ok (record { nb = 2; nr = 2; latitude = negsuc 4; longitude = 139959722; dx = 250000; dstart = 125 })
 unfolding in_octets cut_answer on_cut grid_at bins_at rays_at signed field be
-cut_cells r p = p ∙ ap (on_cut C.Refused (λ c. C.Cut (grid_at four_cells c.section3)) 0) verdicts.cells_are
+cut_cells r p = p ∙ ap (on_cut Err (λ c. Ok (grid_at four_cells c.section3)) 0) verdicts.cells_are
 
 -- cut 0 for every cut
-pub own_section_3 : (r : DualCut) → CutPromise two_cuts_lem 1 r → r ≡ C.Cut (record { nb = 1; nr = 3; latitude = negsuc 4; longitude = 139959722; dx = 250000; dstart = 125 })
+pub own_section_3 : (r : Result Grid Refusal) → CutPromise two_cuts_lem 1 r → r ≡ Ok (record { nb = 1; nr = 3; latitude = negsuc 4; longitude = 139959722; dx = 250000; dstart = 125 })
 unfolding in_octets cut_answer on_cut grid_at bins_at rays_at signed field be
-own_section_3 r p = p ∙ ap (on_cut C.Refused (λ c. C.Cut (grid_at two_cuts_lem c.section3)) 1) verdicts.two_are
+own_section_3 r p = p ∙ ap (on_cut Err (λ c. Ok (grid_at two_cuts_lem c.section3)) 1) verdicts.two_are
 
 -- all ones given a number
-pub all_ones_missing : (r : BinAnswer) → BinPromise four_cells 0 0 1 r → r ≡ B.Missing
-unfolding in_octets bin_answer on_cut bin_on bin_of told_in cell_of cell_in width_in width_at bins_in rays_in bins_at rays_at field be
-all_ones_missing r p = p.answer ∙ ap (on_cut B.Refused (bin_on four_cells 0 1) 0) verdicts.cells_are
+pub all_ones_missing : (r : Result (Option Float) Refusal) → BinPromise four_cells 0 0 1 r → r ≡ (Ok None)
+unfolding in_octets bin_answer on_cut bin_on told_in cell_of cell_in width_in width_at bins_in rays_in bins_at rays_at field be
+all_ones_missing r p = p.answer ∙ ap (on_cut Err (bin_on four_cells 0 1) 0) verdicts.cells_are
 
 -- another bin's cell; the sign of R dropped; E as decimal; D as binary: (-1.5 + 3 x 2) / 100 is 0.045
-pub ray_1_bin_0 : (r : BinAnswer) → BinPromise four_cells 0 1 0 r → r ≡ B.Value (fin false 3242591731706757 (negsuc 55))
-unfolding in_octets bin_answer on_cut bin_on bin_of told_in cell_of scaled_value add div of_int of_bits cell_in reference_in binary_scale_in decimal_scale_in width_in reference_at binary_scale_at decimal_scale_at width_at bins_in rays_in bins_at rays_at field be
-ray_1_bin_0 r p = p.answer ∙ ap (on_cut B.Refused (bin_on four_cells 1 0) 0) verdicts.cells_are
+pub ray_1_bin_0 : (r : Result (Option Float) Refusal) → BinPromise four_cells 0 1 0 r → r ≡ Ok (Some (fin false 3242591731706757 (negsuc 55)))
+unfolding in_octets bin_answer on_cut bin_on told_in cell_of scaled_value add div of_int of_bits cell_in reference_in binary_scale_in decimal_scale_in width_in reference_at binary_scale_at decimal_scale_at width_at bins_in rays_in bins_at rays_at field be
+ray_1_bin_0 r p = p.answer ∙ ap (on_cut Err (bin_on four_cells 1 0) 0) verdicts.cells_are
 
 -- 16-bit cells read least octet first: 0x0102 is 258, and (-1.5 + 258 x 2) / 100 is 5.145
-pub ray_1_bin_1 : (r : BinAnswer) → BinPromise four_cells 0 1 1 r → r ≡ B.Value (fin false 1448188755176325 (negsuc 47))
-unfolding in_octets bin_answer on_cut bin_on bin_of told_in cell_of scaled_value add div of_int of_bits cell_in reference_in binary_scale_in decimal_scale_in width_in reference_at binary_scale_at decimal_scale_at width_at bins_in rays_in bins_at rays_at field be
-ray_1_bin_1 r p = p.answer ∙ ap (on_cut B.Refused (bin_on four_cells 1 1) 0) verdicts.cells_are
+pub ray_1_bin_1 : (r : Result (Option Float) Refusal) → BinPromise four_cells 0 1 1 r → r ≡ Ok (Some (fin false 1448188755176325 (negsuc 47)))
+unfolding in_octets bin_answer on_cut bin_on told_in cell_of scaled_value add div of_int of_bits cell_in reference_in binary_scale_in decimal_scale_in width_in reference_at binary_scale_at decimal_scale_at width_at bins_in rays_in bins_at rays_at field be
+ray_1_bin_1 r p = p.answer ∙ ap (on_cut Err (bin_on four_cells 1 1) 0) verdicts.cells_are
 
 -- a bin past the ray taken
-pub bin_past_ray : (r : BinAnswer) → BinPromise four_cells 0 0 2 r → r ≡ B.Refused (refuse Argument 0)
+pub bin_past_ray : (r : Result (Option Float) Refusal) → BinPromise four_cells 0 0 2 r → r ≡ Err (refuse Argument 0)
 unfolding in_octets bin_answer on_cut bin_on bins_in rays_in bins_at rays_at field be
-bin_past_ray r p = p.answer ∙ ap (on_cut B.Refused (bin_on four_cells 0 2) 0) verdicts.cells_are
+bin_past_ray r p = p.answer ∙ ap (on_cut Err (bin_on four_cells 0 2) 0) verdicts.cells_are

@@ -12,8 +12,6 @@ use lib.Dec.{ltb, eqb}
 use lib.ListN.{length, get_or}
 use lib.Ieee.{Float}
 use Rattle.scaled.specs.Scaled.{Right, cell_of, scaled_value}
-use Rattle.scaled.specs.declared.Cell.{Cell}
-use Rattle.scaled.specs.declared.Cell.TheVariants as L
 use Rattle.sections.specs.Parts.{bins_in, rays_in, grid_at}
 use Rattle.sections.specs.Verdict.{default_cut}
 use Rattle.sections.specs.declared.Cut.{Cut}
@@ -26,32 +24,27 @@ use Rattle.dual_format.specs.Parts.{reference_in, binary_scale_in, decimal_scale
 use Rattle.dual_format.proofs.Exact.{exact}
 use Rattle.calls.specs.Cuts.{cut_at}
 use Rattle.calls.specs.Reasons.{Reason, Asking, BinFault}
-use Rattle.calls.specs.declared.BinAnswer.{BinAnswer}
-use Rattle.calls.specs.declared.BinAnswer.TheVariants as B
 use Rattle.calls.proofs.ByVerdict.{file_refused, file_accepted, by_file_verdict, cut_accepted, file_answers}
 use Rattle.calls.proofs.Judging.{Judges, refuses, answers_exactly, never, BinAnswered, bin_judges}
-use Rattle.dualpol.specs.Answers.{summary_of, open_answer, OpenPromise, cut_answer, CutPromise, bin_of, bin_on, bin_answer, RightIn, BinPromise}
+use Rattle.dualpol.specs.Answers.{summary_of, open_answer, OpenPromise, cut_answer, CutPromise, bin_on, bin_answer, RightIn, BinPromise}
 use Rattle.dualpol.specs.declared.DualSummary.{DualSummary}
-use Rattle.dualpol.specs.declared.DualOpened.{DualOpened}
-use Rattle.dualpol.specs.declared.DualOpened.TheVariants as O
-use Rattle.dualpol.specs.declared.DualCut.{DualCut}
-use Rattle.dualpol.specs.declared.DualCut.TheVariants as C
+use Rattle.std.specs.Prelude.{Err, None, Ok, Option, Result, Some}
 
 -- ── accepted exactly, refused exactly: open ──
 
-pub open_refused : (s : List ℕ) (r : Refusal) → OpenPromise s (O.Refused r) → RefusedBy s r
+pub open_refused : (s : List ℕ) (r : Refusal) → OpenPromise s (Err r) → RefusedBy s r
 unfolding open_answer
 open_refused s r p =
-    by_file_verdict dual_checks dual_format exact s O.Refused (λ n c. O.File (summary_of s n c)) (O.Refused r) (RefusedBy s r)
+    by_file_verdict dual_checks dual_format exact s Err (λ n c. Ok (summary_of s n c)) (Err r) (RefusedBy s r)
     (λ q k e. let same : q ≡ r = cc e in subst (RefusedBy s) same k)
     (λ cs k e. let z : ◌≡◌ {A = ℕ} 0 1 = cc e in absurd (omega arith))
     (sym p)
 
-pub refused_open : (s : List ℕ) (r : Refusal) (a : DualOpened) → RefusedBy s r → OpenPromise s a → a ≡ O.Refused r
+pub refused_open : (s : List ℕ) (r : Refusal) (a : Result DualSummary Refusal) → RefusedBy s r → OpenPromise s a → a ≡ Err r
 unfolding open_answer
 refused_open s r a h p = p ∙ file_refused dual_checks dual_format exact s _ _ r h
 
-pub accepted_open : (s : List ℕ) (cs : List Cut) (a : DualOpened) → Accepted s cs → OpenPromise s a → a ≡ O.File (summary_of s (length cs) (get_or cs 0 default_cut))
+pub accepted_open : (s : List ℕ) (cs : List Cut) (a : Result DualSummary Refusal) → Accepted s cs → OpenPromise s a → a ≡ Ok (summary_of s (length cs) (get_or cs 0 default_cut))
 unfolding open_answer
 accepted_open s cs a h p = p ∙ file_accepted dual_checks dual_format exact s _ _ cs h
 
@@ -60,10 +53,10 @@ pub record AcceptedAs (s : List ℕ) (m : DualSummary) : Type 0 where
   pub accepts : Accepted s cs
   pub summary : m ≡ summary_of s (length cs) (get_or cs 0 default_cut)
 
-pub open_accepted : (s : List ℕ) (m : DualSummary) → OpenPromise s (O.File m) → AcceptedAs s m
+pub open_accepted : (s : List ℕ) (m : DualSummary) → OpenPromise s (Ok m) → AcceptedAs s m
 unfolding open_answer
 open_accepted s m p =
-    by_file_verdict dual_checks dual_format exact s O.Refused (λ n c. O.File (summary_of s n c)) (O.File m) (AcceptedAs s m)
+    by_file_verdict dual_checks dual_format exact s Err (λ n c. Ok (summary_of s n c)) (Ok m) (AcceptedAs s m)
     (λ r k e. let z : ◌≡◌ {A = ℕ} 0 1 = cc e in absurd (omega arith))
     (λ cs k e. record { cs = cs; accepts = k; summary = cc e })
     (sym p)
@@ -73,56 +66,55 @@ open_accepted s m p =
 abbrev pub CutReasons : List ℕ → ℕ → Refusal → Type 0
 CutReasons s i = Reason dual_checks dual_format s i (Asking (λ c. ⊥))
 
-cut_judges : (s : List ℕ) (c : Cut) → Judges C.Refused (λ a. (m : Grid) × (a ≡ C.Cut m)) true true true (C.Cut (grid_at s c.section3)) ⊥ ⊥ ⊥
+cut_judges : (s : List ℕ) (c : Cut) → Judges Err (λ a. (m : Grid) × (a ≡ Ok m)) true true true (Ok (grid_at s c.section3)) ⊥ ⊥ ⊥
 cut_judges s c =
     record { wrong = never; short = never; unfit = never; answered = (_, refl); not_refused = λ q h. let z : ◌≡◌ {A = ℕ} 0 1 = cc h.1 in omega arith; same = λ p q e. cc e }
 
-cut_refuses : (s : List ℕ) (i : ℕ) (q : Refusal) → (cut_answer s i ≡ C.Refused q) ↔ CutReasons s i q
+cut_refuses : (s : List ℕ) (i : ℕ) (q : Refusal) → (cut_answer s i ≡ Err q) ↔ CutReasons s i q
 unfolding cut_answer
 cut_refuses s i = refuses dual_checks dual_format exact s i (cut_judges s)
 
-pub cut_refused : (s : List ℕ) (i : ℕ) (q : Refusal) → CutPromise s i (C.Refused q) → CutReasons s i q
+pub cut_refused : (s : List ℕ) (i : ℕ) (q : Refusal) → CutPromise s i (Err q) → CutReasons s i q
 cut_refused s i q p = (cut_refuses s i q).0 (sym p)
 
-pub refused_cut : (s : List ℕ) (i : ℕ) (q : Refusal) (a : DualCut) → CutReasons s i q → CutPromise s i a → a ≡ C.Refused q
+pub refused_cut : (s : List ℕ) (i : ℕ) (q : Refusal) (a : Result Grid Refusal) → CutReasons s i q → CutPromise s i a → a ≡ Err q
 refused_cut s i q a h p = p ∙ (cut_refuses s i q).1 h
 
 abbrev pub BinReasons : List ℕ → ℕ → ℕ → ℕ → Refusal → Type 0
 BinReasons s i ray bin = Reason dual_checks dual_format s i (BinFault s ray bin)
 
 -- a cell is answered
-cell_answered : (x : Cell) → BinAnswered (bin_of x)
-unfolding bin_of
-cell_answered L.Missing = inl refl
-cell_answered (L.Value y) = inr (y, refl)
+cell_answered : (x : Option Float) → BinAnswered (Ok x)
+cell_answered None = inl refl
+cell_answered (Some y) = inr (y, refl)
 
-bin_judged : (s : List ℕ) (ray bin : ℕ) (c : Cut) → Judges B.Refused BinAnswered (ltb ray (rays_in s c) && ltb bin (bins_in s c)) true true (bin_of (told_in s c ray bin)) ((rays_in s c ≤ ray) ⊎ (bins_in s c ≤ bin)) ⊥ ⊥
+bin_judged : (s : List ℕ) (ray bin : ℕ) (c : Cut) → Judges Err BinAnswered (ltb ray (rays_in s c) && ltb bin (bins_in s c)) true true (Ok (told_in s c ray bin)) ((rays_in s c ≤ ray) ⊎ (bins_in s c ≤ bin)) ⊥ ⊥
 bin_judged s ray bin c = bin_judges s ray bin c _ (cell_answered _)
 
-bin_refuses : (s : List ℕ) (i ray bin : ℕ) (q : Refusal) → (bin_answer s i ray bin ≡ B.Refused q) ↔ BinReasons s i ray bin q
+bin_refuses : (s : List ℕ) (i ray bin : ℕ) (q : Refusal) → (bin_answer s i ray bin ≡ Err q) ↔ BinReasons s i ray bin q
 unfolding bin_answer bin_on
 bin_refuses s i ray bin = refuses dual_checks dual_format exact s i (bin_judged s ray bin)
 
-pub bin_refused : (s : List ℕ) (i ray bin : ℕ) (q : Refusal) → BinPromise s i ray bin (B.Refused q) → BinReasons s i ray bin q
+pub bin_refused : (s : List ℕ) (i ray bin : ℕ) (q : Refusal) → BinPromise s i ray bin (Err q) → BinReasons s i ray bin q
 bin_refused s i ray bin q p = (bin_refuses s i ray bin q).0 (sym p.answer)
 
-pub refused_bin : (s : List ℕ) (i ray bin : ℕ) (q : Refusal) (a : BinAnswer) → BinReasons s i ray bin q → BinPromise s i ray bin a → a ≡ B.Refused q
+pub refused_bin : (s : List ℕ) (i ray bin : ℕ) (q : Refusal) (a : Result (Option Float) Refusal) → BinReasons s i ray bin q → BinPromise s i ray bin a → a ≡ Err q
 refused_bin s i ray bin q a h p = p.answer ∙ (bin_refuses s i ray bin q).1 h
 
 -- ── and they answer exactly where no reason to refuse holds ──
 
 module _ (s : List ℕ) where
-  pub open_answered : (a : DualOpened) → OpenPromise s a → ((m : DualSummary) × (a ≡ O.File m)) ↔ ((q : Refusal) → RefusedBy s q → ⊥)
+  pub open_answered : (a : Result DualSummary Refusal) → OpenPromise s a → ((m : DualSummary) × (a ≡ Ok m)) ↔ ((q : Refusal) → RefusedBy s q → ⊥)
   unfolding open_answer
   open_answered a p =
       rw p
-      (file_answers dual_checks dual_format exact s _ _ (λ x. (m : DualSummary) × (x ≡ O.File m)) (λ n c. (_, refl)) (λ q h. let z : ◌≡◌ {A = ℕ} 0 1 = cc h.1 in omega arith))
+      (file_answers dual_checks dual_format exact s _ _ (λ x. (m : DualSummary) × (x ≡ Ok m)) (λ n c. (_, refl)) (λ q h. let z : ◌≡◌ {A = ℕ} 0 1 = cc h.1 in omega arith))
 
-  pub cut_answered : (i : ℕ) (a : DualCut) → CutPromise s i a → ((m : Grid) × (a ≡ C.Cut m)) ↔ ((q : Refusal) → CutReasons s i q → ⊥)
+  pub cut_answered : (i : ℕ) (a : Result Grid Refusal) → CutPromise s i a → ((m : Grid) × (a ≡ Ok m)) ↔ ((q : Refusal) → CutReasons s i q → ⊥)
   unfolding cut_answer
   cut_answered i a p = rw p (answers_exactly dual_checks dual_format exact s i (cut_judges s))
 
-  pub bin_answered : (i ray bin : ℕ) (a : BinAnswer) → BinPromise s i ray bin a → BinAnswered a ↔ ((q : Refusal) → BinReasons s i ray bin q → ⊥)
+  pub bin_answered : (i ray bin : ℕ) (a : Result (Option Float) Refusal) → BinPromise s i ray bin a → BinAnswered a ↔ ((q : Refusal) → BinReasons s i ray bin q → ⊥)
   unfolding bin_answer bin_on
   bin_answered i ray bin a p = rw p.answer (answers_exactly dual_checks dual_format exact s i (bin_judged s ray bin))
 
@@ -136,46 +128,46 @@ module _ (s : List ℕ) (cs : List Cut) (a : Accepted s cs) (i : ℕ) (lt : i < 
   unfolding cut_at
   cut_is = ap (cut_at i) (exact.accepted_all s cs a)
 
-  pub cut_answers : (r : DualCut) → CutPromise s i r → r ≡ C.Cut (grid_at s cut.section3)
+  pub cut_answers : (r : Result Grid Refusal) → CutPromise s i r → r ≡ Ok (grid_at s cut.section3)
   unfolding cut_answer
   cut_answers r p = p ∙ cut_accepted dual_checks dual_format exact s _ _ i cs a lt
 
   module _ (ray bin : ℕ) (h : ray < rays_in s cut) (k : bin < bins_in s cut) where
-    bin_told : (r : BinAnswer) → BinPromise s i ray bin r → r ≡ bin_of (told_in s cut ray bin)
+    bin_told : (r : Result (Option Float) Refusal) → BinPromise s i ray bin r → r ≡ Ok (told_in s cut ray bin)
     unfolding bin_answer bin_on
     bin_told r p = p.answer ∙ cut_accepted dual_checks dual_format exact s _ _ i cs a lt ∙ rw (lt-ltb ray (rays_in s cut) h, lt-ltb bin (bins_in s cut) k)
 
     -- all ones is missing, and nothing else is
-    pub missing_answer : (r : BinAnswer) → BinPromise s i ray bin r → cell_in s cut ray bin ≡ 2 ^ width_in s cut - 1 → r ≡ B.Missing
-    unfolding told_in cell_of bin_of
+    pub missing_answer : (r : Result (Option Float) Refusal) → BinPromise s i ray bin r → cell_in s cut ray bin ≡ 2 ^ width_in s cut - 1 → r ≡ (Ok None)
+    unfolding told_in cell_of
     missing_answer r p ones = bin_told r p ∙ rw (eq-eqb _ _ ones)
 
-    pub answer_missing : BinPromise s i ray bin B.Missing → cell_in s cut ray bin ≡ 2 ^ width_in s cut - 1
-    unfolding told_in cell_of bin_of
-    answer_missing p = go (eqb (cell_in s cut ray bin) (2 ^ width_in s cut - 1)) refl (bin_told B.Missing p)
+    pub answer_missing : BinPromise s i ray bin (Ok None) → cell_in s cut ray bin ≡ 2 ^ width_in s cut - 1
+    unfolding told_in cell_of
+    answer_missing p = go (eqb (cell_in s cut ray bin) (2 ^ width_in s cut - 1)) refl (bin_told (Ok None) p)
       where
         go : (t : Bool) → eqb (cell_in s cut ray bin) (2 ^ width_in s cut - 1) ≡ t
-            → B.Missing ≡ bin_of (cond t L.Missing (L.Value (scaled_value (reference_in s cut) (cell_in s cut ray bin) (binary_scale_in s cut) (decimal_scale_in s cut))))
+            → ◌≡◌ {A = Result (Option Float) Refusal} (Ok None) (Ok (cond t None (Some (scaled_value (reference_in s cut) (cell_in s cut ray bin) (binary_scale_in s cut) (decimal_scale_in s cut)))))
             → cell_in s cut ray bin ≡ 2 ^ width_in s cut - 1
         go true e x = eqb-true _ _ e
         go false e x = let z : ◌≡◌ {A = ℕ} 0 1 = cc in absurd (omega arith)
 
     -- any other cell is a number, and the right one: within |Y| / 2^51 of Y, and 0 where Y is 0
-    pub value_answer : (y : Float) → BinPromise s i ray bin (B.Value y) → Right y (reference_in s cut) (cell_in s cut ray bin) (binary_scale_in s cut) (decimal_scale_in s cut)
-    value_answer y p = subst (λ (c : Cut). RightIn s ray bin c (B.Value y)) cut_is p.near
+    pub value_answer : (y : Float) → BinPromise s i ray bin (Ok (Some y)) → Right y (reference_in s cut) (cell_in s cut ray bin) (binary_scale_in s cut) (decimal_scale_in s cut)
+    value_answer y p = subst (λ (c : Cut). RightIn s ray bin c (Ok (Some y))) cut_is p.near
 
-    pub number_answer : (r : BinAnswer) → BinPromise s i ray bin r → (cell_in s cut ray bin ≡ 2 ^ width_in s cut - 1 → ⊥)
-        → r ≡ B.Value (scaled_value (reference_in s cut) (cell_in s cut ray bin) (binary_scale_in s cut) (decimal_scale_in s cut))
-    unfolding told_in cell_of bin_of
+    pub number_answer : (r : Result (Option Float) Refusal) → BinPromise s i ray bin r → (cell_in s cut ray bin ≡ 2 ^ width_in s cut - 1 → ⊥)
+        → r ≡ Ok (Some (scaled_value (reference_in s cut) (cell_in s cut ray bin) (binary_scale_in s cut) (decimal_scale_in s cut)))
+    unfolding told_in cell_of
     number_answer r p other = bin_told r p ∙ rw (ne_eqb _ _ other)
 
 -- ── each promise allows one answer ──
 
-pub open_one : (s : List ℕ) (a b : DualOpened) → OpenPromise s a → OpenPromise s b → a ≡ b
+pub open_one : (s : List ℕ) (a b : Result DualSummary Refusal) → OpenPromise s a → OpenPromise s b → a ≡ b
 open_one s a b p q = p ∙ sym q
 
-pub cut_one : (s : List ℕ) (i : ℕ) (a b : DualCut) → CutPromise s i a → CutPromise s i b → a ≡ b
+pub cut_one : (s : List ℕ) (i : ℕ) (a b : Result Grid Refusal) → CutPromise s i a → CutPromise s i b → a ≡ b
 cut_one s i a b p q = p ∙ sym q
 
-pub bin_one : (s : List ℕ) (i ray bin : ℕ) (a b : BinAnswer) → BinPromise s i ray bin a → BinPromise s i ray bin b → a ≡ b
+pub bin_one : (s : List ℕ) (i ray bin : ℕ) (a b : Result (Option Float) Refusal) → BinPromise s i ray bin a → BinPromise s i ray bin b → a ≡ b
 bin_one s i ray bin a b p q = p.answer ∙ sym q.answer

@@ -9,12 +9,9 @@ ghost use Rattle.scaled.specs.Scaled.{RightCell};
 ghost use Rattle.sections.specs.Parts.{bins_in, rays_in};
 ghost use Rattle.dual_format.specs.Parts.{reference_in, binary_scale_in, decimal_scale_in, cell_in, told_in};
 ghost use Rattle.dual_format.specs.Good.{GoodCut};
-ghost use Rattle.dualpol.specs.Answers.{summary_of, OpenPromise, CutPromise, bin_of, bin_on, RightIn, BinPromise};
+ghost use Rattle.dualpol.specs.Answers.{summary_of, OpenPromise, CutPromise, bin_on, RightIn, BinPromise};
 
-use calls::{BinAnswer, Sought};
-use scaled::Cell;
-use sections::{Cut, Grid, Judged, Refusal, Time};
-use walks::Walked;
+use sections::{Cut, Grid, Refusal, Time};
 
 // What is common to all cuts of a file.
 #[derive(Clone, Copy)]
@@ -23,18 +20,6 @@ pub struct DualSummary {
     pub time: Time,
     pub site: u16,
     pub cuts: usize,
-}
-
-#[derive(Clone, Copy)]
-pub enum DualOpened {
-    File(DualSummary),
-    Refused(Refusal),
-}
-
-#[derive(Clone, Copy)]
-pub enum DualCut {
-    Cut(Grid),
-    Refused(Refusal),
 }
 
 // ---- open and cut
@@ -55,26 +40,19 @@ fn summary_of(file: &[u8], n: usize, c: Cut) -> DualSummary
 }
 
 // Open: parameter, time, site and number of cuts.
-pub fn open(file: &[u8]) -> DualOpened
+pub fn open(file: &[u8]) -> Result<DualSummary, Refusal>
     ensures { OpenPromise file.now result }
 {
-    match walks::walk_dual(file, 0) {
-        Walked::Accepted(f) => {
-            let c = f.cut;
-            DualOpened::File(summary_of(file, f.cuts, c))
-        }
-        Walked::Refused(refusal) => DualOpened::Refused(refusal),
-    }
+    let found = walks::walk_dual(file, 0)?;
+    Ok(summary_of(file, found.cuts, found.cut))
 }
 
 // Cut: what the file says of cut i, Nb to Dstart.
-pub fn cut_info(file: &[u8], i: usize) -> DualCut
+pub fn cut_info(file: &[u8], i: usize) -> Result<Grid, Refusal>
     ensures { CutPromise file.now i result }
 {
-    match calls::find_dual(file, i) {
-        Sought::Cut(c) => DualCut::Cut(sections::grid_at(file, c.section3)),
-        Sought::Refused(refusal) => DualCut::Refused(refusal),
-    }
+    let c = calls::find_dual(file, i)?;
+    Ok(sections::grid_at(file, c.section3))
 }
 
 // ---- bin value
@@ -91,8 +69,8 @@ fn cell_at(file: &[u8], at: usize, width: u8, n: usize) -> u16
     octets::be16(file, from + 2 * n)
 }
 
-// What the cell of a bin tells.
-fn told_in(file: &[u8], c: Cut, ray: usize, bin: usize) -> Cell
+// The value that the cell of a bin tells, if it tells one.
+fn told_in(file: &[u8], c: Cut, ray: usize, bin: usize) -> Option<f64>
     requires { GoodCut file.now c × (ray < rays_in file.now c) × (bin < bins_in file.now c) }
     ensures exact { result ≡ told_in file.now c ray bin }
     ensures near { RightCell result (reference_in file.now c) (cell_in file.now c ray bin) (binary_scale_in file.now c) (decimal_scale_in file.now c) }
@@ -106,34 +84,18 @@ fn told_in(file: &[u8], c: Cut, ray: usize, bin: usize) -> Cell
     scaled::cell_of(r, e, d, width, cell_at(file, c.section7, width, n))
 }
 
-// A cell as the bin call answers it.
-fn bin_of(cell: Cell) -> BinAnswer
-    ensures { result ≡ bin_of cell }
-{
-    match cell {
-        Cell::Missing => BinAnswer::Missing,
-        Cell::Value(x) => BinAnswer::Value(x),
-    }
-}
-
-fn bin_value_on(file: &[u8], c: Cut, ray: usize, bin: usize) -> BinAnswer
+fn bin_value_on(file: &[u8], c: Cut, ray: usize, bin: usize) -> Result<Option<f64>, Refusal>
     requires { GoodCut file.now c }
     ensures exact { result ≡ bin_on file.now ray bin c }
     ensures near { RightIn file.now ray bin c result }
 {
-    let judged = calls::judge_bin(file, c, ray, bin);
-    if let Judged::Refused(refusal) = judged {
-        return BinAnswer::Refused(refusal);
-    }
-    bin_of(told_in(file, c, ray, bin))
+    calls::judge_bin(file, c, ray, bin)?;
+    Ok(told_in(file, c, ray, bin))
 }
 
-// Bin value: missing, or the value.
-pub fn bin_value(file: &[u8], i: usize, ray: usize, bin: usize) -> BinAnswer
+// Bin value: the value; None where it is missing.
+pub fn bin_value(file: &[u8], i: usize, ray: usize, bin: usize) -> Result<Option<f64>, Refusal>
     ensures { BinPromise file.now i ray bin result }
 {
-    match calls::find_dual(file, i) {
-        Sought::Cut(c) => bin_value_on(file, c, ray, bin),
-        Sought::Refused(refusal) => BinAnswer::Refused(refusal),
-    }
+    bin_value_on(file, calls::find_dual(file, i)?, ray, bin)
 }

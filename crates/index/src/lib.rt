@@ -9,7 +9,7 @@ ghost use Rattle.lent.specs.Lent.{front};
 ghost use Rattle.index.specs.Index.{usable, from_record, records};
 ghost use Rattle.index.specs.Pace.{longer_run, data_in, Along, Onward, Going};
 
-use runs::{RunInHand, Step};
+use runs::RunInHand;
 
 // Where a ray begins: the offset in the data of the level octet whose run holds its first bin, and how many bins of that run came before.
 #[repr(C)]
@@ -26,21 +26,11 @@ fn reaches(octets: &[u8], v: u8, want: usize) -> bool
 {
     let mut at: usize = 0;
     let mut bins: usize = 0;
-    loop {
-        match runs::run_upto(octets, v, at, want - bins) {
-            Step::Run {
-                level: _,
-                len,
-                next,
-            } => {
-                bins += len;
-                at = next;
-            }
-            Step::End => {
-                return bins == want;
-            }
-        }
+    while let Some(run) = runs::run_upto(octets, v, at, want - bins) {
+        bins += run.len;
+        at = run.next;
     }
+    bins == want
 }
 
 // The first n octets of a row, at the front of out.
@@ -57,12 +47,8 @@ fn longer(octets: &[u8], v: u8, before: usize) -> bool
     ensures { result ≡ longer_run v octets.now before }
 {
     match runs::run_upto(octets, v, 0, before + 1) {
-        Step::Run {
-            level,
-            len,
-            next: _,
-        } => (level <= v) & (before < len),
-        Step::End => false,
+        Some(run) => (run.level <= v) & (before < run.len),
+        None => false,
     }
 }
 

@@ -28,8 +28,6 @@ use Rattle.cuts.specs.Bins.{ray_in}
 use Rattle.cuts.specs.Records.{records_in, usable_in, ray_from}
 use Rattle.cuts.proofs.Places.{ray_gives}
 use Rattle.calls.specs.Cuts.{on_cut, cut_at, cut_in, cut_any_data, if_written}
-use Rattle.calls.specs.declared.RayAnswer.{RayAnswer}
-use Rattle.calls.specs.declared.RayAnswer.TheVariants.{Written, Refused}
 use Rattle.sections.specs.Refusal.{refuse}
 use Rattle.sections.specs.declared.Why.TheVariants.{Argument}
 use Rattle.polar.specs.Rays.{ray_on, ray_answer, levels_after, marks_after, values_after}
@@ -37,6 +35,8 @@ use Rattle.records.specs.Records.{from_on, from_answer, levels_from, marks_from,
 use Rattle.calls.proofs.ByVerdict.{by_verdict}
 use Rattle.polar.specs.Promises.{LevelsPromise, ValuesPromise}
 use Rattle.records.specs.Promises.{BuildPromise, LevelsFromPromise, ValuesFromPromise}
+use Rattle.sections.specs.declared.Refusal.{Refusal}
+use Rattle.std.specs.Prelude.{Err, Ok, Result, ⊤}
 
 -- ---- a good cut and a ray of it
 module _ (s : List ℕ) (c : Cut) (g : GoodCut s c) (ray : ℕ) (inside : ray < rays_in s c) (e : RayRecord) where
@@ -69,11 +69,11 @@ module _ (s : List ℕ) (cs : List Cut) (whole : verdict s ≡ accepted cs) (i :
 
   by_record : (room : ℕ) → from_answer s i ray rec room ≡ from_on s ray rec room cut
   unfolding from_answer on_cut
-  by_record room = ap (on_cut Refused (from_on s ray rec room) i) (any_same s cs whole) ∙ rw (lt-ltb i (length cs) some)
+  by_record room = ap (on_cut Err (from_on s ray rec room) i) (any_same s cs whole) ∙ rw (lt-ltb i (length cs) some)
 
   plainly : (room : ℕ) → ray_answer s i ray room ≡ ray_on s ray room cut
   unfolding ray_answer on_cut
-  plainly room = ap (on_cut Refused (ray_on s ray room) i) whole ∙ rw (lt-ltb i (length cs) some)
+  plainly room = ap (on_cut Err (ray_on s ray room) i) whole ∙ rw (lt-ltb i (length cs) some)
 
   on_its_cut : (room : ℕ) → from_on s ray rec room cut ≡ ray_on s ray room cut
   unfolding from_on ray_on
@@ -86,12 +86,12 @@ module _ (s : List ℕ) (cs : List Cut) (whole : verdict s ≡ accepted cs) (i :
   same_answer room = by_record room ∙ on_its_cut room ∙ sym (plainly room)
 
   -- the bins that a written answer is about
-  bins_same : (room : ℕ) → ray_answer s i ray room ≡ Written → ray_from s cut rec ≡ ray_in s cut ray
+  bins_same : (room : ℕ) → ray_answer s i ray room ≡ (Ok tt) → ray_from s cut rec ≡ ray_in s cut ray
   unfolding ray_on
   bins_same room w =
       by_order (rays_in s cut) ray
       (λ out.
-      let no : Refused (refuse Argument 0) ≡ Written = sym (plainly room ∙ rw (le-ltb ray (rays_in s cut) out)) ∙ w in
+      let no : Err (refuse Argument 0) ≡ (Ok tt) = sym (plainly room ∙ rw (le-ltb ray (rays_in s cut) out)) ∙ w in
       absurd (let z : ◌≡◌ {A = ℕ} 0 1 = cc no in omega arith))
       (λ inside. ap (ray_from s cut) (is inside) ∙ made_from s cut good ray inside e)
 
@@ -104,13 +104,13 @@ module _ (s : List ℕ) (cs : List Cut) (whole : verdict s ≡ accepted cs) (i :
       ∙ go (ray_answer s i ray room) refl
       ∙ sym (ap (λ (v : Verdict). if_written (ray_answer s i ray room) (f (cut_at i v) (ray_in s (cut_at i v) ray)) old) whole)
     where
-      go : (a : RayAnswer) → ray_answer s i ray room ≡ a → if_written a (f cut (ray_from s cut rec)) old ≡ if_written a (f cut (ray_in s cut ray)) old
-      go Written w = ap (f cut) (bins_same room w)
-      go (Refused q) w = refl
+      go : (a : Result ⊤ Refusal) → ray_answer s i ray room ≡ a → if_written a (f cut (ray_from s cut rec)) old ≡ if_written a (f cut (ray_in s cut ray)) old
+      go (Ok tt) w = ap (f cut) (bins_same room w)
+      go (Err q) w = refl
 
 -- ---- THE THEOREM
 -- Where building has answered, and `row'` is the row that it left: for every ray, by the record that stands there, and any lent memory
-module _ (s : List ℕ) (i : ℕ) (row row' : List RayRecord) (built : BuildPromise s i row Written row') (ray : ℕ) (e : RayRecord) where
+module _ (s : List ℕ) (i : ℕ) (row row' : List RayRecord) (built : BuildPromise s i row (Ok tt) row') (ray : ℕ) (e : RayRecord) where
   abbrev rec : RayRecord
   rec = get_or row' ray e
 
@@ -124,7 +124,7 @@ module _ (s : List ℕ) (i : ℕ) (row row' : List RayRecord) (built : BuildProm
   standing : Built
   unfolding build_answer row_after cut_at records_in
   standing =
-      by_verdict base_checks base_format exact s Refused (build_on s (length row)) i Written Built
+      by_verdict base_checks base_format exact s Err (build_on s (length row)) i (Ok tt) Built
       (λ r k x. absurd (let z : ◌≡◌ {A = ℕ} 0 1 = cc x in omega arith))
       (λ cs k le x. absurd (let z : ◌≡◌ {A = ℕ} 0 1 = cc x in omega arith))
       (λ cs k lt x. record { cs = cs; whole = exact.accepted_all s cs k; some = lt; is = found cs (exact.accepted_all s cs k) })
@@ -136,7 +136,7 @@ module _ (s : List ℕ) (i : ℕ) (row row' : List RayRecord) (built : BuildProm
           ap (λ (l : List RayRecord). get_or l ray e) (built.after ∙ ap (λ (v : Verdict). front (records_in s (cut_at i v)) row) w)
           ∙ get_or-append (records_in s c) (drop (length (records_in s c)) row) e ray (omega (arith, length_records (bins_in s c) (greatest_in s c) (data_at s c.section7) (rays_in s c) 0))
 
-  pub same_levels : (out out' out'' : List ℕ) (r : RayAnswer) (a : RayAnswer) → LevelsFromPromise s i ray rec out r out' → LevelsPromise s i ray out a out''
+  pub same_levels : (out out' out'' : List ℕ) (r : Result ⊤ Refusal) (a : Result ⊤ Refusal) → LevelsFromPromise s i ray rec out r out' → LevelsPromise s i ray out a out''
       → (r ≡ a) × (out' ≡ out'')
   unfolding levels_from levels_after
   same_levels out out' out'' r a p q =
@@ -145,13 +145,13 @@ module _ (s : List ℕ) (i : ℕ) (row row' : List RayRecord) (built : BuildProm
       let told : r ≡ ray_answer s i ray room = p.answer ∙ same_answer s b.cs b.whole i b.some ray rec e b.is room in (
         told ∙ sym q.answer,
         p.after
-            ∙ ap (λ (x : RayAnswer). if_written x (front (ray_from s (cut_any_data s i) rec) out) out) told
+            ∙ ap (λ (x : Result ⊤ Refusal). if_written x (front (ray_from s (cut_any_data s i) rec) out) out) told
             ∙ held_same s b.cs b.whole i b.some ray rec e b.is room (λ c l. front l out) out
-            ∙ sym (ap (λ (x : RayAnswer). if_written x (front (ray_in s (cut_in s i) ray) out) out) q.answer)
+            ∙ sym (ap (λ (x : Result ⊤ Refusal). if_written x (front (ray_in s (cut_in s i) ray) out) out) q.answer)
             ∙ sym q.after,
       )
 
-  pub same_values : (marks marks' marks'' : List ℕ) (values values' values'' : List ℤ) (r : RayAnswer) (a : RayAnswer)
+  pub same_values : (marks marks' marks'' : List ℕ) (values values' values'' : List ℤ) (r : Result ⊤ Refusal) (a : Result ⊤ Refusal)
       → ValuesFromPromise s i ray rec marks values r marks' values' → ValuesPromise s i ray marks values a marks'' values''
       → (r ≡ a) × (marks' ≡ marks'') × (values' ≡ values'')
   unfolding marks_from values_from marks_after values_after
@@ -161,13 +161,13 @@ module _ (s : List ℕ) (i : ℕ) (row row' : List RayRecord) (built : BuildProm
       let told : r ≡ ray_answer s i ray room = p.answer ∙ same_answer s b.cs b.whole i b.some ray rec e b.is room in (
         told ∙ sym q.answer,
         p.marked
-            ∙ ap (λ (x : RayAnswer). if_written x (marks_of (product_in s (cut_any_data s i)) (ray_from s (cut_any_data s i) rec) marks) marks) told
+            ∙ ap (λ (x : Result ⊤ Refusal). if_written x (marks_of (product_in s (cut_any_data s i)) (ray_from s (cut_any_data s i) rec) marks) marks) told
             ∙ held_same s b.cs b.whole i b.some ray rec e b.is room (λ c l. marks_of (product_in s c) l marks) marks
-            ∙ sym (ap (λ (x : RayAnswer). if_written x (marks_of (product_in s (cut_in s i)) (ray_in s (cut_in s i) ray) marks) marks) q.answer)
+            ∙ sym (ap (λ (x : Result ⊤ Refusal). if_written x (marks_of (product_in s (cut_in s i)) (ray_in s (cut_in s i) ray) marks) marks) q.answer)
             ∙ sym q.marked,
         p.valued
-            ∙ ap (λ (x : RayAnswer). if_written x (values_of (product_in s (cut_any_data s i)) (ray_from s (cut_any_data s i) rec) values) values) told
+            ∙ ap (λ (x : Result ⊤ Refusal). if_written x (values_of (product_in s (cut_any_data s i)) (ray_from s (cut_any_data s i) rec) values) values) told
             ∙ held_same s b.cs b.whole i b.some ray rec e b.is room (λ c l. values_of (product_in s c) l values) values
-            ∙ sym (ap (λ (x : RayAnswer). if_written x (values_of (product_in s (cut_in s i)) (ray_in s (cut_in s i) ray) values) values) q.answer)
+            ∙ sym (ap (λ (x : Result ⊤ Refusal). if_written x (values_of (product_in s (cut_in s i)) (ray_in s (cut_in s i) ray) values) values) q.answer)
             ∙ sym q.valued,
       )

@@ -1,11 +1,9 @@
 -- The kinds of a stretch, in one table: FORMAT.md, "Calls", Stretches ("Kind 0 missing, 1 value below T, 2 value at or above T") and "The lister".
-use Rattle.std.specs.Prelude.{ℕ, cond, List, [], ◌∷◌, eqb}
+use Rattle.std.specs.Prelude.{ℕ, cond, List, [], ◌∷◌, eqb, None, Option, Some}
 use Prim.Native.String.{String}
 use Rattle.lent.specs.Ascii.{ascii}
 use Rattle.kinds.specs.declared.Kind.{Kind}
 use Rattle.kinds.specs.declared.Kind.TheVariants.{Missing, Under, Over}
-use Rattle.kinds.specs.declared.Numbered.{Numbered}
-use Rattle.kinds.specs.declared.Numbered.TheVariants.{Is, NoKind}
 
 pub record Row : Type 0 where
   pub number : ℕ
@@ -27,11 +25,11 @@ abbrev pub kind_word : Kind → List ℕ
 kind_word k = ascii (row k).word
 
 -- what a number stands for among some kinds, and among all
-abbrev pub kind_among : ℕ → List Kind → Numbered
-kind_among n [] = NoKind
-kind_among n (k ∷ ks) = cond (eqb n (kind_number k)) (Is k) (kind_among n ks)
+abbrev pub kind_among : ℕ → List Kind → Option Kind
+kind_among n [] = None
+kind_among n (k ∷ ks) = cond (eqb n (kind_number k)) (Some k) (kind_among n ks)
 
-unfoldable pub kind_by : ℕ → Numbered
+unfoldable pub kind_by : ℕ → Option Kind
 kind_by n = kind_among n all_kinds
 
 -- how many octets a word may take

@@ -7,7 +7,7 @@ ghost use Rattle.lent.specs.Put.{Put};
 ghost use Rattle.kinds.specs.KindTable.{kind_number, kind_word, kind_by, word_room};
 
 // No number; a value under the threshold; one at the threshold or over it.
-#[derive(Clone, Copy)]
+#[derive(Clone, Copy, Debug, PartialEq, Eq)]
 pub enum Kind {
     Missing,
     Under,
@@ -31,26 +31,16 @@ pub fn number_of(kind: Kind) -> u32
     }
 }
 
-// What a number stands for.
-#[derive(Clone, Copy)]
-pub enum Numbered {
-    Is(Kind),
-    NoKind,
-}
-
-pub fn by_number(number: u32) -> Numbered
+// The kind that a number stands for, if it is one's.
+pub fn by_number(number: u32) -> Option<Kind>
     ensures { result ≡ kind_by number }
 {
-    if number == MISSING {
-        return Numbered::Is(Kind::Missing);
+    match number {
+        MISSING => Some(Kind::Missing),
+        UNDER => Some(Kind::Under),
+        OVER => Some(Kind::Over),
+        _ => None,
     }
-    if number == UNDER {
-        return Numbered::Is(Kind::Under);
-    }
-    if number == OVER {
-        return Numbered::Is(Kind::Over);
-    }
-    Numbered::NoKind
 }
 
 // The word of a kind.

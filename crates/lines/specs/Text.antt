@@ -1,10 +1,9 @@
 -- FORMAT.md, "The lister": the text of the list, line by line. A text is a list of octets.
-use Rattle.std.specs.Prelude.{ℕ, zero, suc, ◌+◌, ◌/◌, ◌%◌, cond, List, [], ◌∷◌, ◌++◌, ltb}
+use Rattle.std.specs.Prelude.{ℕ, zero, suc, ◌+◌, ◌/◌, ◌%◌, cond, List, [], ◌∷◌, ◌++◌, ltb, None, Option, Some}
 use Rattle.kinds.specs.KindTable.{kind_by, kind_word}
-use Rattle.kinds.specs.declared.Numbered.{Numbered}
-use Rattle.kinds.specs.declared.Numbered.TheVariants.{Is, NoKind}
 use Rattle.stretches.specs.Stretch.{Entry}
 use Rattle.lent.specs.Ascii.{ascii}
+use Rattle.kinds.specs.declared.Kind.{Kind}
 
 -- the octet of a digit
 abbrev pub digit : ℕ → ℕ
@@ -20,9 +19,9 @@ unfoldable pub decimal : ℕ → List ℕ
 decimal n = spelled (suc n) n
 
 -- what stands for a kind in the line of an entry: its word. A number that is no kind's has none
-abbrev pub kind_text : Numbered → List ℕ
-kind_text (Is k) = ascii " " ++ kind_word k
-kind_text NoKind = []
+abbrev pub kind_text : Option Kind → List ℕ
+kind_text (Some k) = ascii " " ++ kind_word k
+kind_text None = []
 
 abbrev pub newline : List ℕ
 newline = ascii "\n"

@@ -11,7 +11,6 @@ ghost use Rattle.lines.specs.Rooms.{entry_room, line_room};
 ghost use Rattle.lines.specs.Text.{decimal, kind_text, newline, entry_line, entry_lines, head_line, refused_line, end_line};
 ghost use Rattle.lines.specs.Words.{entry_in, entries_in};
 
-use kinds::Numbered;
 
 // How many octets the line of an entry may take.
 pub const ENTRY_ROOM: usize = 82;
@@ -70,8 +69,7 @@ fn put_kind(out: &mut [u8], at: usize, number: u32) -> usize
     ensures put { Put out.old at (kind_text (kind_by number) ++ newline) out.new result }
     ensures upper_bound { result ≤ at + 20 }
 {
-    let found = kinds::by_number(number);
-    let Numbered::Is(kind) = found else {
+    let Some(kind) = kinds::by_number(number) else {
         return lent::put_octets(out, at, b"\n");
     };
     let a = lent::put_octets(out, at, b" ");

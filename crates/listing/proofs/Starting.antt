@@ -13,7 +13,6 @@ use Rattle.sections.specs.declared.Refusal.{Refusal}
 use Rattle.sections.specs.declared.Why.TheVariants.{FileSize}
 use Rattle.walks.specs.Answer.{answer_for}
 use Rattle.walks.specs.declared.Found.{Found}
-use Rattle.walks.specs.declared.Walked.TheVariants as W
 use Rattle.lines.specs.Text.{refused_line, end_line}
 use Rattle.listing.specs.Listing.{cut_lines, entry_count, verdict_text, text_of}
 use Rattle.listing.specs.Progress.{cuts_by, cuts_in, cut_begun, text_at, part_text, text_from, Sound}
@@ -22,6 +21,7 @@ use Rattle.listing.specs.declared.Progress.TheVariants.{Refused, Head}
 use Rattle.listing.proofs.AllCuts.{some_cut}
 use Rattle.listing.proofs.Moving.{at_first}
 use Rattle.listing.proofs.Texts.{one_cut}
+use Rattle.std.specs.Prelude.{Err, Ok}
 
 pub too_long : (s : List ℕ) → 65536 < length s → text_from s (Refused (record { why = FileSize; place = 0 })) ≡ text_of s
 unfolding text_from text_of
@@ -31,11 +31,11 @@ text_is : (s : List ℕ) → length s ≤ 65536 → text_of s ≡ verdict_text s
 unfolding text_of
 text_is s h = simp (le-ltb 65536 (length s) h)
 
-pub refused_first : (s : List ℕ) (r : Refusal) → length s ≤ 65536 → answer_for 0 (verdict s) ≡ W.Refused r → text_from s (Refused r) ≡ text_of s
+pub refused_first : (s : List ℕ) (r : Refusal) → length s ≤ 65536 → answer_for 0 (verdict s) ≡ Err r → text_from s (Refused r) ≡ text_of s
 unfolding text_from verdict_text answer_for
 refused_first s r h e = go (verdict s) e ∙ sym (text_is s h)
   where
-    go : (v : Verdict) → answer_for 0 v ≡ W.Refused r → refused_line (number_of r.why) r.place ≡ verdict_text s v
+    go : (v : Verdict) → answer_for 0 v ≡ Err r → refused_line (number_of r.why) r.place ≡ verdict_text s v
     go (accepted cs) e = let z : ◌≡◌ {A = ℕ} 0 1 = cc in absurd (omega arith)
     go (refused q) e = let same : r ≡ q = cc in ap (λ (x : Refusal). refused_line (number_of x.why) x.place) same
 
@@ -43,12 +43,12 @@ from_first : (s : List ℕ) → text_at s 0 0 ≡ cut_lines s 0 (cuts_in s) ++ e
 unfolding text_at
 from_first s = let sum : 0 + entry_count s (cuts_in s) ≡ entry_count s (cuts_in s) = omega arith in ap (λ (n : ℕ). cut_lines s 0 (cuts_in s) ++ end_line n) sum
 
-pub head_first : (s : List ℕ) (f : Found) (part : CutPart) → part ≡ cut_begun 0 f.cuts f.cut 0 → length s ≤ 65536 → answer_for 0 (verdict s) ≡ W.Accepted f
+pub head_first : (s : List ℕ) (f : Found) (part : CutPart) → part ≡ cut_begun 0 f.cuts f.cut 0 → length s ≤ 65536 → answer_for 0 (verdict s) ≡ Ok f
     → (text_from s (Head part) ≡ text_of s) × ((ws : List ℕ) → Sound s ws (Head part))
 unfolding text_from part_text verdict_text answer_for Sound
 head_first s f part begun h e = rw begun (go (verdict s) refl e)
   where
-    go : (v : Verdict) → verdict s ≡ v → answer_for 0 v ≡ W.Accepted f → (text_from s (Head (cut_begun 0 f.cuts f.cut 0)) ≡ text_of s) × ((ws : List ℕ) → Sound s ws (Head (cut_begun 0 f.cuts f.cut 0)))
+    go : (v : Verdict) → verdict s ≡ v → answer_for 0 v ≡ Ok f → (text_from s (Head (cut_begun 0 f.cuts f.cut 0)) ≡ text_of s) × ((ws : List ℕ) → Sound s ws (Head (cut_begun 0 f.cuts f.cut 0)))
     go (refused r) u e = let z : ◌≡◌ {A = ℕ} 0 1 = cc in absurd (omega arith)
     go (accepted cs) u e =
         let found : f ≡ record { cuts = length cs; cut = get_or cs 0 default_cut } = cc in

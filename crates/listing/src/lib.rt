@@ -14,7 +14,6 @@ ghost use Rattle.listing.specs.Progress.{step_room, cut_begun, text_from, part_t
 
 use sections::{Cut, Refusal, Why};
 use stretches::Listing;
-use walks::Walked;
 
 // How many octets a file may have that is listed.
 pub const LARGEST: usize = 65536;
@@ -65,13 +64,6 @@ pub struct Written {
     pub next: Progress,
 }
 
-fn number_of(refusal: Refusal) -> usize
-    ensures { result ≡ number_of refusal.why }
-{
-    let why = refusal.why;
-    sections::number_of(why) as usize
-}
-
 // A cut from its beginning on.
 fn cut_begun(number: usize, cuts: usize, cut: Cut, total: usize) -> CutPart
     ensures { result ≡ cut_begun number cuts cut total }
@@ -92,17 +84,11 @@ pub fn start(file: &[u8]) -> Progress
     ensures by_index { (ws : List ℕ) → Sound file.now ws result }
 {
     if LARGEST < file.len() {
-        return Progress::Refused(Refusal {
-            why: Why::FileSize,
-            place: 0,
-        });
+        return Progress::Refused(sections::refuse(Why::FileSize, 0));
     }
     match walks::walk(file, 0) {
-        Walked::Accepted(f) => {
-            let cut = f.cut;
-            Progress::Head(cut_begun(0, f.cuts, cut, 0))
-        }
-        Walked::Refused(refusal) => Progress::Refused(refusal),
+        Ok(found) => Progress::Head(cut_begun(0, found.cuts, found.cut, 0)),
+        Err(refusal) => Progress::Refused(refusal),
     }
 }
 
@@ -206,7 +192,8 @@ fn step(file: &[u8], p: Progress, words: &mut [u32], text: &mut [u8], at: usize)
 {
     match p {
         Progress::Refused(refusal) => {
-            let to = lines::put_refused(text, at, number_of(refusal), refusal.place);
+            let number = u32::from(refusal.why) as usize;
+            let to = lines::put_refused(text, at, number, refusal.place);
             AfterStep {
                 at: to,
                 next: Progress::Finished,

@@ -27,27 +27,23 @@ use Rattle.calls.specs.Cuts.{on_cut, judged, cut_at, cut_in, if_written}
 use Rattle.polar.specs.Opening.{elevation_of, info_of, cut_answer}
 use Rattle.polar.specs.Rays.{ray_on, ray_answer, levels_after, marks_after, values_after, bin_of, bin_on, bin_answer}
 use Rattle.polar.specs.Stretching.{stretches_on, stretch_answer, if_listed, words_after}
-use Rattle.polar.specs.declared.CutAnswer.TheVariants as C
-use Rattle.calls.specs.declared.RayAnswer.{RayAnswer}
-use Rattle.calls.specs.declared.RayAnswer.TheVariants as R
-use Rattle.calls.specs.declared.BinAnswer.TheVariants as B
-use Rattle.polar.specs.declared.StretchAnswer.{StretchAnswer}
-use Rattle.polar.specs.declared.StretchAnswer.TheVariants as S
 use Rattle.calls.proofs.ByVerdict.{cut_accepted}
 use Rattle.files.specs.File.{Parts, parts_at}
 use Rattle.moved.specs.ByOctets.{product_by, levels_by, stretches_by}
 use Rattle.moved.proofs.ByOctets.{ByOctets, by_octets}
+use Rattle.stretches.specs.declared.Listing.{Listing}
+use Rattle.std.specs.Prelude.{Err, Ok, Result, ⊤}
 
 -- cut i of one file and cut j of another: every call answers the same
 pub record SameCalls (s : List ℕ) (i : ℕ) (t : List ℕ) (j : ℕ) : Type 0 where
   pub cut : cut_answer s i ≡ cut_answer t j
   pub rays : (ray room : ℕ) → ray_answer s i ray room ≡ ray_answer t j ray room
-  pub levels : (a : RayAnswer) (ray : ℕ) (out : List ℕ) → levels_after a s i ray out ≡ levels_after a t j ray out
-  pub marks : (a : RayAnswer) (ray : ℕ) (out : List ℕ) → marks_after a s i ray out ≡ marks_after a t j ray out
-  pub values : (a : RayAnswer) (ray : ℕ) (out : List ℤ) → values_after a s i ray out ≡ values_after a t j ray out
+  pub levels : (a : Result ⊤ Refusal) (ray : ℕ) (out : List ℕ) → levels_after a s i ray out ≡ levels_after a t j ray out
+  pub marks : (a : Result ⊤ Refusal) (ray : ℕ) (out : List ℕ) → marks_after a s i ray out ≡ marks_after a t j ray out
+  pub values : (a : Result ⊤ Refusal) (ray : ℕ) (out : List ℤ) → values_after a s i ray out ≡ values_after a t j ray out
   pub bin : (ray bin : ℕ) → bin_answer s i ray bin ≡ bin_answer t j ray bin
   pub stretches : (x : ℤ) (ray bin room : ℕ) → stretch_answer s i x ray bin room ≡ stretch_answer t j x ray bin room
-  pub words : (a : StretchAnswer) (x : ℤ) (ray bin : ℕ) (out : List ℕ) → words_after a s i x ray bin out ≡ words_after a t j x ray bin out
+  pub words : (a : Result Listing Refusal) (x : ℤ) (ray bin : ℕ) (out : List ℕ) → words_after a s i x ray bin out ≡ words_after a t j x ray bin out
 
 -- two cuts of which all is said alike
 module _ (s t : List ℕ) (c d : Cut) (p q : Parts) (m : ByOctets s c p) (n : ByOctets t d q) (e : p ≡ q) where
@@ -81,17 +77,17 @@ module _ (s t : List ℕ) (c d : Cut) (p q : Parts) (m : ByOctets s c p) (n : By
 
   ray_on_lem : (ray room : ℕ) → ray_on s ray room c ≡ ray_on t ray room d
   unfolding ray_on
-  ray_on_lem ray room = (λ i. judged R.Refused c (ltb ray (rays i)) (leb (bins i) room) true R.Written)
+  ray_on_lem ray room = (λ i. judged Err c (ltb ray (rays i)) (leb (bins i) room) true (Ok tt))
 
   bin_on_lem : (ray bin : ℕ) → bin_on s ray bin c ≡ bin_on t ray bin d
   unfolding bin_on level_in
   bin_on_lem ray bin =
-      (λ i. judged B.Refused c (ltb ray (rays i) && ltb bin (bins i)) true true (bin_of (reading_of (product i) (get_or (levels i) (ray * bins i + bin) 0))))
+      (λ i. judged Err c (ltb ray (rays i) && ltb bin (bins i)) true true (Ok (bin_of (reading_of (product i) (get_or (levels i) (ray * bins i + bin) 0)))))
 
   stretches_on_lem : (x : ℤ) (ray bin room : ℕ) → stretches_on s x ray bin room c ≡ stretches_on t x ray bin room d
   unfolding stretches_on
   stretches_on_lem x ray bin room =
-      (λ i. judged S.Refused c (right_t x && right_point (bins i) (rays i) ray bin) (leb per_entry room) true (S.Listed (answer_of (rays i) room (stretches x ray bin i))))
+      (λ i. judged Err c (right_t x && right_point (bins i) (rays i) ray bin) (leb per_entry room) true (Ok (answer_of (rays i) room (stretches x ray bin i))))
 
 module _ (s : List ℕ) (cs : List Cut) (a : Accepted s cs) (i : ℕ) (lt : i < length cs) where
   cut_is : cut_in s i ≡ get_or cs i default_cut
@@ -119,7 +115,7 @@ same_calls s t cs ds a b i j lt lu e =
     let list_of : (v : ℤ) (ray bin : ℕ) → stretches_in s (cut_in s i) v ray bin ≡ stretches_in t (cut_in t j) v ray bin =
     λ v ray bin. ap (λ (z : Cut). stretches_in s z v ray bin) x ∙ stretches s t c d p q m n e v ray bin ∙ sym (ap (λ (z : Cut). stretches_in t z v ray bin) y) in
     record {
-      cut = on_its_cut s cs a i lt _ _ ∙ ap C.Cut (info s t c d p q m n e) ∙ sym (on_its_cut t ds b j lu _ _);
+      cut = on_its_cut s cs a i lt _ _ ∙ ap Ok (info s t c d p q m n e) ∙ sym (on_its_cut t ds b j lu _ _);
       rays = λ ray room. on_its_cut s cs a i lt _ _ ∙ ray_on_lem s t c d p q m n e ray room ∙ sym (on_its_cut t ds b j lu _ _);
       levels = λ r ray out. ap (λ (l : List ℕ). if_written r (front l out) out) (ray_of ray);
       marks = λ r ray out. (λ k. if_written r (marks_of (product_of k) (ray_of ray k) out) out);

@@ -24,16 +24,13 @@ use Rattle.dual_format.proofs.First.{as_first}
 use Rattle.calls.specs.Cuts.{on_cut}
 use Rattle.sections.specs.Refusal.{refuse}
 use Rattle.sections.specs.declared.Why.TheVariants.{Argument}
-use Rattle.calls.specs.declared.BinAnswer.{BinAnswer}
-use Rattle.calls.specs.declared.BinAnswer.TheVariants as B
 use Rattle.calls.proofs.ByVerdict.{cut_accepted, file_accepted}
-use Rattle.dualpol.specs.Answers.{summary_of, open_answer, cut_answer, bin_of, bin_on, bin_answer}
-use Rattle.dualpol.specs.declared.DualOpened.TheVariants as O
-use Rattle.dualpol.specs.declared.DualCut.TheVariants as C
+use Rattle.dualpol.specs.Answers.{summary_of, open_answer, cut_answer, bin_on, bin_answer}
 use Rattle.files.specs.File.{Parts, parts_at}
 use Rattle.files.proofs.Each.{four_alike, time_alike}
 use Rattle.moved.specs.DualByOctets.{told_by}
 use Rattle.moved.proofs.DualByOctets.{DualByOctets, dual_by_octets}
+use Rattle.std.specs.Prelude.{Err, Ok, Option, Result, Float}
 
 -- cut i of one file and cut j of another: every call on a cut answers the same
 pub record SameDualCalls (s : List ℕ) (i : ℕ) (t : List ℕ) (j : ℕ) : Type 0 where
@@ -45,8 +42,8 @@ guarded true x y z f = f refl
 guarded false x y z f = refl
 
 -- bin value of a cut, by its octets
-bin_by : Parts → ℕ → ℕ → BinAnswer
-bin_by p ray bin = cond (ltb ray (rays_at p.three 0) && ltb bin (bins_at p.three 0)) (bin_of (told_by p ray bin)) (B.Refused (refuse Argument 0))
+bin_by : Parts → ℕ → ℕ → Result (Option Float) Refusal
+bin_by p ray bin = cond (ltb ray (rays_at p.three 0) && ltb bin (bins_at p.three 0)) (Ok (told_by p ray bin)) (Err (refuse Argument 0))
 
 bin_by_lem : (s : List ℕ) (c : Cut) (p : Parts) → DualByOctets s c p → (ray bin : ℕ) → bin_on s ray bin c ≡ bin_by p ray bin
 unfolding bin_on bin_by
@@ -54,8 +51,8 @@ bin_by_lem s c p m ray bin =
     guarded (ltb ray (rays_in s c) && ltb bin (bins_in s c)) _ _ _
     (λ e.
     let in_range = and_true_both (ltb ray (rays_in s c)) (ltb bin (bins_in s c)) e in
-    ap bin_of (m.tells ray bin (ltb-true _ _ in_range.0) (ltb-true _ _ in_range.1)))
-    ∙ (λ i. cond (ltb ray (m.rays i) && ltb bin (m.bins i)) (bin_of (told_by p ray bin)) (B.Refused (refuse Argument 0)))
+    ap Ok (m.tells ray bin (ltb-true _ _ in_range.0) (ltb-true _ _ in_range.1)))
+    ∙ (λ i. cond (ltb ray (m.rays i) && ltb bin (m.bins i)) (Ok (told_by p ray bin)) (Err (refuse Argument 0)))
 
 module _ (s : List ℕ) (cs : List Cut) (a : Accepted s cs) where
   on_its_cut : (i : ℕ) → i < length cs → {X : Type 0} (bad : Refusal → X) (some : Cut → X) → on_cut bad some i (verdict s) ≡ some (get_or cs i default_cut)
@@ -69,7 +66,7 @@ same_dual_calls s t cs ds a b i j lt lu e =
     let n = dual_by_octets t ds b j lu in
     let grid = m.grid ∙ ap (λ (p : Parts). grid_at p.three 0) e ∙ sym n.grid in
     record {
-      cut = on_its_cut s cs a i lt _ _ ∙ ap C.Cut grid ∙ sym (on_its_cut t ds b j lu _ _);
+      cut = on_its_cut s cs a i lt _ _ ∙ ap Ok grid ∙ sym (on_its_cut t ds b j lu _ _);
       bin =
           λ ray bin.
           on_its_cut s cs a i lt _ _
@@ -80,7 +77,7 @@ same_dual_calls s t cs ds a b i j lt lu e =
 -- an accepted file with the section 1 of another, whose first cut stood in that other one, opens as that other one does, but for the number of cuts
 pub same_dual_open : (s t : List ℕ) (cs ds : List Cut) → Accepted s cs → Accepted t ds → (j : ℕ) → 0 < length ds → j < length cs
     → parts_at t (get_or ds 0 default_cut) ≡ parts_at s (get_or cs j default_cut) → section_at t 16 ≡ section_at s 16
-    → open_answer t ≡ O.File (summary_of s (length ds) (get_or cs 0 default_cut))
+    → open_answer t ≡ Ok (summary_of s (length ds) (get_or cs 0 default_cut))
 unfolding open_answer
 same_dual_open s t cs ds a b j some lt e one =
     let m = dual_by_octets t ds b 0 some in
@@ -93,12 +90,12 @@ same_dual_open s t cs ds a b j some lt e one =
     ∙ four_alike dual_format (λ o. site_at o 0) (λ x y z k. (as_first x y z k).1) s cs a j 0 lt (omega arith) ∙ sym zero.site in
     let time = time_alike dual_format t s ds b one in
     file_accepted dual_checks dual_format exact t _ _ ds b
-    ∙ (λ i. O.File (record { parameter = parameter i; time = time i; site = site i; cuts = length ds }))
+    ∙ (λ i. Ok (record { parameter = parameter i; time = time i; site = site i; cuts = length ds }))
 
 -- two files with the same section 1, the same first cut and as many cuts open alike
 pub dual_opened_alike : (s t : List ℕ) (cs ds : List Cut) → Accepted s cs → Accepted t ds → 0 < length cs → length ds ≡ length cs
     → parts_at t (get_or ds 0 default_cut) ≡ parts_at s (get_or cs 0 default_cut) → section_at t 16 ≡ section_at s 16 → open_answer t ≡ open_answer s
 dual_opened_alike s t cs ds a b some count e one =
     same_dual_open s t cs ds a b 0 (omega arith) some e one
-    ∙ ap (λ (n : ℕ). O.File (summary_of s n (get_or cs 0 default_cut))) count
+    ∙ ap (λ (n : ℕ). Ok (summary_of s n (get_or cs 0 default_cut))) count
     ∙ sym (same_dual_open s s cs cs a a 0 some some refl refl)

@@ -25,9 +25,9 @@ use Rattle.moved.specs.ByOctets.{stretches_by}
 use Rattle.moved.specs.Wishes.{count_from, smaller_of}
 use Rattle.moved.proofs.ByOctets.{by_octets}
 use Rattle.polar.specs.Opening.{summary_of, open_answer}
-use Rattle.polar.specs.declared.Opened.TheVariants as O
 use Rattle.moved.proofs.Opened.{same_open}
 use Rattle.moved.proofs.Calls.{SameCalls, same_calls}
+use Rattle.std.specs.Prelude.{Ok}
 
 -- within a list no default counts
 default_free : {A : Type 0} (l : List A) (i : ℕ) (d d' : A) → i < length l → get_or l i d ≡ get_or l i d'
@@ -76,7 +76,7 @@ pub record Smaller (s : List ℕ) (cs : List Cut) (w : ℕ) (t : List ℕ) : Typ
   pub accepted : Accepted t ds
   pub no_longer : length t ≤ length s
   pub count : length ds ≡ length (chosen w (count_from 0 (length cs)))
-  pub opens : open_answer t ≡ O.File (summary_of s (length ds) (get_or cs 0 default_cut))
+  pub opens : open_answer t ≡ Ok (summary_of s (length ds) (get_or cs 0 default_cut))
   pub octets : (i : ℕ) → i < length ds → parts_at t (get_or ds i default_cut) ≡ parts_at s (get_or cs (get_or (chosen w (count_from 0 (length cs))) i 0) default_cut)
   pub calls : (i : ℕ) → i < length ds → SameCalls t i s (get_or (chosen w (count_from 0 (length cs))) i 0)
 

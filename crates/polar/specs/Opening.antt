@@ -1,5 +1,5 @@
 -- FORMAT.md, "Calls": what open and cut answer.
-use Rattle.std.specs.Prelude.{ℕ, List, cond, eqb}
+use Rattle.std.specs.Prelude.{ℕ, List, cond, eqb, Err, None, Ok, Option, Result, Some, ℤ}
 use Rattle.octets.specs.Octets.{signed}
 use Rattle.rules.specs.Rules.{field}
 use Rattle.base_format.specs.Fields.{site_at}
@@ -9,13 +9,8 @@ use Rattle.base_format.specs.Verdict.{verdict}
 use Rattle.sections.specs.declared.Cut.{Cut}
 use Rattle.calls.specs.Cuts.{on_file, on_cut}
 use Rattle.polar.specs.declared.Summary.{Summary}
-use Rattle.polar.specs.declared.Opened.{Opened}
-use Rattle.polar.specs.declared.Opened.TheVariants as O
-use Rattle.polar.specs.declared.Elevation.{Elevation}
-use Rattle.polar.specs.declared.Elevation.TheVariants.{Missing, Hundredths}
 use Rattle.polar.specs.declared.CutInfo.{CutInfo}
-use Rattle.polar.specs.declared.CutAnswer.{CutAnswer}
-use Rattle.polar.specs.declared.CutAnswer.TheVariants as C
+use Rattle.sections.specs.declared.Refusal.{Refusal}
 
 -- "product, time, site, number of cuts": product and site are those of the first cut's section 4
 abbrev pub summary_of : List ℕ → ℕ → Cut → Summary
@@ -27,12 +22,12 @@ summary_of s n c =
       cuts = n;
     }
 
-unfoldable pub open_answer : List ℕ → Opened
-open_answer s = on_file O.Refused (λ n c. O.File (summary_of s n c)) (verdict s)
+unfoldable pub open_answer : List ℕ → Result Summary Refusal
+open_answer s = on_file Err (λ n c. Ok (summary_of s n c)) (verdict s)
 
--- octets 42-43 of section 4: "Elevation constant 0xFFFF means missing, not -32767"
-unfoldable pub elevation_of : ℕ → Elevation
-elevation_of n = cond (eqb n 0xFFFF) Missing (Hundredths (signed 2 n))
+-- octets 42-43 of section 4: "(Option ℤ) constant 0xFFFF means missing, not -32767"
+unfoldable pub elevation_of : ℕ → Option ℤ
+elevation_of n = cond (eqb n 0xFFFF) None (Some (signed 2 n))
 
 -- "Nb, Nr, latitude, longitude, Dx, Dstart, start azimuth, mode of operation, elevation constant or missing"
 unfoldable pub info_of : List ℕ → Cut → CutInfo
@@ -44,5 +39,5 @@ info_of s c =
       elevation = elevation_of (field s c.section4 42 2);
     }
 
-unfoldable pub cut_answer : List ℕ → ℕ → CutAnswer
-cut_answer s i = on_cut C.Refused (λ c. C.Cut (info_of s c)) i (verdict s)
+unfoldable pub cut_answer : List ℕ → ℕ → Result CutInfo Refusal
+cut_answer s i = on_cut Err (λ c. Ok (info_of s c)) i (verdict s)

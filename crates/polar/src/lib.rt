@@ -17,11 +17,9 @@ ghost use Rattle.polar.specs.Rays.{ray_on, bin_of, bin_on};
 ghost use Rattle.polar.specs.Stretching.{stretches_on, if_listed, house};
 ghost use Rattle.polar.specs.Promises.{OpenPromise, CutPromise, LevelsPromise, ValuesPromise, BinPromise, StretchesPromise};
 
-use calls::{BinAnswer, RayAnswer, Sought};
-use sections::{Cut, Grid, Judged, Refusal, Time};
+use sections::{Cut, Grid, Refusal, Time};
 use stretches::Listing;
 use values::{Product, Reading};
-use walks::Walked;
 
 // What is common to all cuts of a file.
 #[derive(Clone, Copy)]
@@ -32,37 +30,13 @@ pub struct Summary {
     pub cuts: usize,
 }
 
-#[derive(Clone, Copy)]
-pub enum Opened {
-    File(Summary),
-    Refused(Refusal),
-}
-
-#[derive(Clone, Copy)]
-pub enum Elevation {
-    Missing,
-    Hundredths(i32),
-}
-
-// A cut as the file describes it, each number as read.
+// A cut as the file describes it, each number as read; the elevation in hundredths, where it is not missing.
 #[derive(Clone, Copy)]
 pub struct CutInfo {
     pub grid: Grid,
     pub start_azimuth: u16,
     pub mode: u8,
-    pub elevation: Elevation,
-}
-
-#[derive(Clone, Copy)]
-pub enum CutAnswer {
-    Cut(CutInfo),
-    Refused(Refusal),
-}
-
-#[derive(Clone, Copy)]
-pub enum StretchAnswer {
-    Listed(Listing),
-    Refused(Refusal),
+    pub elevation: Option<i32>,
 }
 
 // ---- open and cut
@@ -83,25 +57,20 @@ fn summary_of(file: &[u8], n: usize, c: Cut) -> Summary
 }
 
 // Open: product, time, site and number of cuts.
-pub fn open(file: &[u8]) -> Opened
+pub fn open(file: &[u8]) -> Result<Summary, Refusal>
     ensures { OpenPromise file.now result }
 {
-    match walks::walk(file, 0) {
-        Walked::Accepted(f) => {
-            let c = f.cut;
-            Opened::File(summary_of(file, f.cuts, c))
-        }
-        Walked::Refused(refusal) => Opened::Refused(refusal),
-    }
+    let found = walks::walk(file, 0)?;
+    Ok(summary_of(file, found.cuts, found.cut))
 }
 
-fn elevation_of(n: u16) -> Elevation
+fn elevation_of(n: u16) -> Option<i32>
     ensures { result ≡ elevation_of n }
 {
     if n == 0xFFFF {
-        Elevation::Missing
+        None
     } else {
-        Elevation::Hundredths(octets::signed16(n))
+        Some(octets::signed16(n))
     }
 }
 
@@ -123,53 +92,42 @@ fn info_of(file: &[u8], c: Cut) -> CutInfo
 }
 
 // Cut: what the file says of cut i.
-pub fn cut_info(file: &[u8], i: usize) -> CutAnswer
+pub fn cut_info(file: &[u8], i: usize) -> Result<CutInfo, Refusal>
     ensures { CutPromise file.now i result }
 {
-    match calls::find(file, i) {
-        Sought::Cut(c) => CutAnswer::Cut(info_of(file, c)),
-        Sought::Refused(refusal) => CutAnswer::Refused(refusal),
-    }
+    let c = calls::find(file, i)?;
+    Ok(info_of(file, c))
 }
 
 // ---- rays and bins
 
-fn ray_levels_on(file: &[u8], c: Cut, ray: usize, out: &mut [u8]) -> RayAnswer
+fn ray_levels_on(file: &[u8], c: Cut, ray: usize, out: &mut [u8]) -> Result<(), Refusal>
     requires { GoodCut file.now c }
     ensures value { result ≡ ray_on file.now ray (length out.old) c }
     ensures out_after { out.new ≡ if_written result (front (ray_in file.now c ray) out.old) out.old }
 {
-    let judged = calls::judge_ray(file, c, ray, out.len());
-    if let Judged::Refused(refusal) = judged {
-        return RayAnswer::Refused(refusal);
-    }
+    calls::judge_ray(file, c, ray, out.len())?;
     cuts::ray_into(file, c, ray, out);
-    RayAnswer::Written
+    Ok(())
 }
 
 // Ray levels: Nb octets at the front of out.
-pub fn ray_levels(file: &[u8], i: usize, ray: usize, out: &mut [u8]) -> RayAnswer
+pub fn ray_levels(file: &[u8], i: usize, ray: usize, out: &mut [u8]) -> Result<(), Refusal>
     ensures { LevelsPromise file.now i ray out.old result out.new }
 {
-    match calls::find(file, i) {
-        Sought::Cut(c) => ray_levels_on(file, c, ray, out),
-        Sought::Refused(refusal) => RayAnswer::Refused(refusal),
-    }
+    ray_levels_on(file, calls::find(file, i)?, ray, out)
 }
 
-fn ray_values_on(file: &[u8], c: Cut, ray: usize, marks: &mut [u8], values: &mut [i32]) -> RayAnswer
+fn ray_values_on(file: &[u8], c: Cut, ray: usize, marks: &mut [u8], values: &mut [i32]) -> Result<(), Refusal>
     requires { GoodCut file.now c }
     ensures value { result ≡ ray_on file.now ray (min (length marks.old) (length values.old)) c }
     ensures marks_after { marks.new ≡ if_written result (marks_of (product_in file.now c) (ray_in file.now c ray) marks.old) marks.old }
     ensures values_after { values.new ≡ if_written result (values_of (product_in file.now c) (ray_in file.now c ray) values.old) values.old }
 {
     let room = lent::least(marks.len(), values.len());
-    let judged = calls::judge_ray(file, c, ray, room);
-    if let Judged::Refused(refusal) = judged {
-        return RayAnswer::Refused(refusal);
-    }
+    calls::judge_ray(file, c, ray, room)?;
     cuts::readings_into(file, c, ray, marks, values);
-    RayAnswer::Written
+    Ok(())
 }
 
 // Ray values: Nb marks, and the value at each measured place.
@@ -179,45 +137,37 @@ pub fn ray_values(
     ray: usize,
     marks: &mut [u8],
     values: &mut [i32],
-) -> RayAnswer
+) -> Result<(), Refusal>
     ensures { ValuesPromise file.now i ray marks.old values.old result marks.new values.new }
 {
-    match calls::find(file, i) {
-        Sought::Cut(c) => ray_values_on(file, c, ray, marks, values),
-        Sought::Refused(refusal) => RayAnswer::Refused(refusal),
-    }
+    ray_values_on(file, calls::find(file, i)?, ray, marks, values)
 }
 
 // A reading as the bin call answers it.
-fn bin_of(reading: Reading) -> BinAnswer
+fn bin_of(reading: Reading) -> Option<f64>
     ensures { result ≡ bin_of reading }
 {
     match reading {
-        Reading::Missing => BinAnswer::Missing,
-        Reading::Number(z) => BinAnswer::Value(fraction::hundredths_of(z)),
+        Reading::Missing => None,
+        Reading::Number(z) => Some(fraction::hundredths_of(z)),
     }
 }
 
-fn bin_value_on(file: &[u8], c: Cut, ray: usize, bin: usize) -> BinAnswer
+fn bin_value_on(file: &[u8], c: Cut, ray: usize, bin: usize) -> Result<Option<f64>, Refusal>
     requires { GoodCut file.now c }
     ensures { result ≡ bin_on file.now ray bin c }
 {
-    let judged = calls::judge_bin(file, c, ray, bin);
-    if let Judged::Refused(refusal) = judged {
-        return BinAnswer::Refused(refusal);
-    }
+    calls::judge_bin(file, c, ray, bin)?;
     let product = base_format::product_in(file, c);
-    bin_of(values::reading_of(product, cuts::level_in(file, c, ray, bin)))
+    let level = cuts::level_in(file, c, ray, bin);
+    Ok(bin_of(values::reading_of(product, level)))
 }
 
-// Bin value: missing, or the value.
-pub fn bin_value(file: &[u8], i: usize, ray: usize, bin: usize) -> BinAnswer
+// Bin value: the value; None where it is missing.
+pub fn bin_value(file: &[u8], i: usize, ray: usize, bin: usize) -> Result<Option<f64>, Refusal>
     ensures { BinPromise file.now i ray bin result }
 {
-    match calls::find(file, i) {
-        Sought::Cut(c) => bin_value_on(file, c, ray, bin),
-        Sought::Refused(refusal) => BinAnswer::Refused(refusal),
-    }
+    bin_value_on(file, calls::find(file, i)?, ray, bin)
 }
 
 // ---- stretches
@@ -238,17 +188,14 @@ fn stretches_on(
     ray: usize,
     bin: usize,
     words: &mut [u32],
-) -> StretchAnswer
+) -> Result<Listing, Refusal>
     requires { GoodCut file.now c }
     ensures value { result ≡ stretches_on file.now t ray bin (length words.old) c }
     ensures words_after { words.new ≡ if_listed result (out_of words.old (stretches_in file.now c t ray bin)) words.old }
 {
     let right = right_list(file, c, t, ray, bin);
-    let judged = calls::judge(right, stretches::PER_ENTRY <= words.len());
-    if let Judged::Refused(refusal) = judged {
-        return StretchAnswer::Refused(refusal);
-    }
-    StretchAnswer::Listed(cuts::list_into(file, c, t, ray, bin, words))
+    calls::judge(right, stretches::PER_ENTRY <= words.len())?;
+    Ok(cuts::list_into(file, c, t, ray, bin, words))
 }
 
 // Stretches: those that start at or past the point (ray, bin), as many as the words have room for.
@@ -259,13 +206,10 @@ pub fn stretches(
     ray: usize,
     bin: usize,
     words: &mut [u32],
-) -> StretchAnswer
+) -> Result<Listing, Refusal>
     ensures { StretchesPromise file.now i t ray bin words.old result words.new }
 {
-    match calls::find(file, i) {
-        Sought::Cut(c) => stretches_on(file, c, t, ray, bin, words),
-        Sought::Refused(refusal) => StretchAnswer::Refused(refusal),
-    }
+    stretches_on(file, calls::find(file, i)?, t, ray, bin, words)
 }
 
 // The house form.
@@ -275,7 +219,7 @@ pub fn house_stretches(
     ray: usize,
     bin: usize,
     words: &mut [u32],
-) -> StretchAnswer
+) -> Result<Listing, Refusal>
     ensures { StretchesPromise file.now i house ray bin words.old result words.new }
 {
     stretches(file, i, stretches::HOUSE, ray, bin, words)

@@ -5,10 +5,11 @@ use mathlib.Core.List.{List}
 use lib.IntN.{ℤ}
 use lib.Ieee.{Float}
 use Rattle.index.specs.declared.RayRecord.{RayRecord}
-use Rattle.calls.specs.declared.BinAnswer.{BinAnswer}
 use Rattle.polar_c.specs.Runs.{RunCheckCall, RunReadCall, RunWriteCall}
 use Rattle.polar_c.specs.Records.{BuildIndexCall, RayLevelsFromCall, RayValuesFromCall}
 use Rattle.polar_c.specs.Files.{Answered, BinAnswered, RayLevelsCall, RayValuesCall, StretchesCall}
+use Rattle.sections.specs.declared.Refusal.{Refusal}
+use Rattle.std.specs.Prelude.{Option, Result}
 
 pub run_check_one : {v n : ℕ} {octets : List ℕ} {x y : ℕ} → RunCheckCall v n octets x → RunCheckCall v n octets y → x ≡ y
 run_check_one p q = p.returned ∙ sym q.returned
@@ -34,7 +35,7 @@ pub ray_values_one : {file : List ℕ} {cut ray : ℕ} {marks : List ℕ} {value
 ray_values_one p q = (p.returned ∙ sym q.returned, p.marked ∙ sym q.marked, p.held ∙ sym q.held)
 
 -- of bin value, in both formats (a dual-polarisation file's promise has it as its part `outcome`)
-pub bin_answered_one : {r : BinAnswer} {value : Float} {answer : List ℕ} {x y : ℕ} {v v' : Float} {w w' : List ℕ} →
+pub bin_answered_one : {r : Result (Option Float) Refusal} {value : Float} {answer : List ℕ} {x y : ℕ} {v v' : Float} {w w' : List ℕ} →
     BinAnswered r value answer x v w → BinAnswered r value answer y v' w' → (x ≡ y) × (v ≡ v') × (w ≡ w')
 bin_answered_one p q = (p.returned ∙ sym q.returned, p.held ∙ sym q.held, p.answered ∙ sym q.answered)
 

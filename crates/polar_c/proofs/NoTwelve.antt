@@ -7,25 +7,11 @@ use lib.ListN.{length}
 use lib.IntN.{ℤ}
 use lib.Ieee.{Float}
 use Rattle.index.specs.declared.RayRecord.{RayRecord}
-use Rattle.calls.specs.declared.RayAnswer.{RayAnswer}
-use Rattle.calls.specs.declared.RayAnswer.TheVariants as R
-use Rattle.calls.specs.declared.BinAnswer.{BinAnswer}
-use Rattle.calls.specs.declared.BinAnswer.TheVariants as B
 use Rattle.polar.specs.Opening.{open_answer, cut_answer}
 use Rattle.polar.specs.Rays.{ray_answer}
 use Rattle.polar.specs.Stretching.{stretch_answer}
-use Rattle.polar.specs.declared.Opened.{Opened}
-use Rattle.polar.specs.declared.Opened.TheVariants as O
-use Rattle.polar.specs.declared.CutAnswer.{CutAnswer}
-use Rattle.polar.specs.declared.CutAnswer.TheVariants as C
-use Rattle.polar.specs.declared.StretchAnswer.{StretchAnswer}
-use Rattle.polar.specs.declared.StretchAnswer.TheVariants as S
 use Rattle.records.specs.Records.{build_answer, from_answer}
 use Rattle.dualpol.specs.Answers as D
-use Rattle.dualpol.specs.declared.DualOpened.{DualOpened}
-use Rattle.dualpol.specs.declared.DualOpened.TheVariants as DO
-use Rattle.dualpol.specs.declared.DualCut.{DualCut}
-use Rattle.dualpol.specs.declared.DualCut.TheVariants as DC
 use Rattle.c_words.specs.Word.{number_in}
 use Rattle.c_words.specs.Files.{open_return, cut_return, ray_return, bin_return, stretch_return}
 use Rattle.c_words.specs.Dual.{dual_open_return, dual_cut_return}
@@ -33,6 +19,13 @@ use Rattle.c_words.proofs.Word.{word_not_twelve}
 use Rattle.polar_c.specs.Files.{OpenCall, CutCall, RayLevelsCall, RayValuesCall, BinAnswered, StretchesCall}
 use Rattle.polar_c.specs.Records.{BuildIndexCall, RayLevelsFromCall, RayValuesFromCall}
 use Rattle.polar_c.specs.Dual.{DualOpenCall, DualCutCall}
+use Rattle.dualpol.specs.declared.DualSummary.{DualSummary}
+use Rattle.polar.specs.declared.CutInfo.{CutInfo}
+use Rattle.polar.specs.declared.Summary.{Summary}
+use Rattle.sections.specs.declared.Grid.{Grid}
+use Rattle.sections.specs.declared.Refusal.{Refusal}
+use Rattle.stretches.specs.declared.Listing.{Listing}
+use Rattle.std.specs.Prelude.{Err, None, Ok, Option, Result, Some, ⊤}
 
 abbrev pub NotTwelve : ℕ → Type 0
 NotTwelve word = number_in word ≡ 12 → ⊥
@@ -40,34 +33,34 @@ NotTwelve word = number_in word ≡ 12 → ⊥
 zero_word : NotTwelve 0
 zero_word e = omega arith
 
-open_word : (a : Opened) → NotTwelve (open_return a)
-open_word (O.File f) = zero_word
-open_word (O.Refused r) = word_not_twelve r
+open_word : (a : Result Summary Refusal) → NotTwelve (open_return a)
+open_word (Ok f) = zero_word
+open_word (Err r) = word_not_twelve r
 
-cut_word : (a : CutAnswer) → NotTwelve (cut_return a)
-cut_word (C.Cut i) = zero_word
-cut_word (C.Refused r) = word_not_twelve r
+cut_word : (a : Result CutInfo Refusal) → NotTwelve (cut_return a)
+cut_word (Ok i) = zero_word
+cut_word (Err r) = word_not_twelve r
 
-ray_word : (a : RayAnswer) → NotTwelve (ray_return a)
-ray_word R.Written = zero_word
-ray_word (R.Refused r) = word_not_twelve r
+ray_word : (a : Result ⊤ Refusal) → NotTwelve (ray_return a)
+ray_word (Ok tt) = zero_word
+ray_word (Err r) = word_not_twelve r
 
-bin_word : (a : BinAnswer) → NotTwelve (bin_return a)
-bin_word B.Missing = zero_word
-bin_word (B.Value x) = zero_word
-bin_word (B.Refused r) = word_not_twelve r
+bin_word : (a : Result (Option Float) Refusal) → NotTwelve (bin_return a)
+bin_word (Ok None) = zero_word
+bin_word (Ok (Some x)) = zero_word
+bin_word (Err r) = word_not_twelve r
 
-stretch_word : (a : StretchAnswer) → NotTwelve (stretch_return a)
-stretch_word (S.Listed l) = zero_word
-stretch_word (S.Refused r) = word_not_twelve r
+stretch_word : (a : Result Listing Refusal) → NotTwelve (stretch_return a)
+stretch_word (Ok l) = zero_word
+stretch_word (Err r) = word_not_twelve r
 
-dual_open_word : (a : DualOpened) → NotTwelve (dual_open_return a)
-dual_open_word (DO.File f) = zero_word
-dual_open_word (DO.Refused r) = word_not_twelve r
+dual_open_word : (a : Result DualSummary Refusal) → NotTwelve (dual_open_return a)
+dual_open_word (Ok f) = zero_word
+dual_open_word (Err r) = word_not_twelve r
 
-dual_cut_word : (a : DualCut) → NotTwelve (dual_cut_return a)
-dual_cut_word (DC.Cut g) = zero_word
-dual_cut_word (DC.Refused r) = word_not_twelve r
+dual_cut_word : (a : Result Grid Refusal) → NotTwelve (dual_cut_return a)
+dual_cut_word (Ok g) = zero_word
+dual_cut_word (Err r) = word_not_twelve r
 
 -- what is returned is the word of an answer
 same : {w x : ℕ} → w ≡ x → NotTwelve x → NotTwelve w
@@ -87,7 +80,7 @@ pub ray_values_not_twelve : {file : List ℕ} {cut ray : ℕ} {marks : List ℕ}
 ray_values_not_twelve {file} {cut} {ray} {marks} {values} p = same p.returned (ray_word (ray_answer file cut ray (min (length marks) (length values))))
 
 -- of bin value, in both formats
-pub bin_not_twelve : {r : BinAnswer} {value : Float} {answer : List ℕ} {w : ℕ} {value' : Float} {answer' : List ℕ} → BinAnswered r value answer w value' answer' → NotTwelve w
+pub bin_not_twelve : {r : Result (Option Float) Refusal} {value : Float} {answer : List ℕ} {w : ℕ} {value' : Float} {answer' : List ℕ} → BinAnswered r value answer w value' answer' → NotTwelve w
 bin_not_twelve {r} p = same p.returned (bin_word r)
 
 -- of both stretch calls

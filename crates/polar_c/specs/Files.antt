@@ -1,10 +1,10 @@
 -- What the calls of a file promise C: what they return, and each lent memory after the call. On a refusal nothing lent has changed.
-use Rattle.std.specs.Prelude.{ℕ, min, ◌≡◌, List, length, ℤ, Float}
+use Rattle.std.specs.Prelude.{ℕ, min, ◌≡◌, List, length, ℤ, Float, Option, Result}
 use Rattle.polar.specs.Opening.{open_answer, cut_answer}
 use Rattle.polar.specs.Rays.{ray_answer, levels_after, marks_after, values_after, bin_answer}
 use Rattle.polar.specs.Stretching.{stretch_answer, words_after}
-use Rattle.calls.specs.declared.BinAnswer.{BinAnswer}
 use Rattle.c_words.specs.Files.{open_return, open_words, cut_return, cut_words, ray_return, bin_return, bin_held, bin_words, stretch_return, stretch_words}
+use Rattle.sections.specs.declared.Refusal.{Refusal}
 
 -- the answer r, by the word that is returned and the words of the lent answer
 pub record Answered {R W : Type 0} (return_of : R → ℕ) (words_of : R → List W → List W) (r : R) (answer : List W) (word : ℕ) (answer' : List W) : Type 0 where
@@ -12,7 +12,7 @@ pub record Answered {R W : Type 0} (return_of : R → ℕ) (words_of : R → Lis
   pub answered : answer' ≡ words_of r answer
 
 -- a bin's answer r, whose value goes to a float of its own
-pub record BinAnswered (r : BinAnswer) (value : Float) (answer : List ℕ) (word : ℕ) (value' : Float) (answer' : List ℕ) : Type 0 where
+pub record BinAnswered (r : Result (Option Float) Refusal) (value : Float) (answer : List ℕ) (word : ℕ) (value' : Float) (answer' : List ℕ) : Type 0 where
   pub returned : word ≡ bin_return r
   pub held : value' ≡ bin_held r value
   pub answered : answer' ≡ bin_words r answer

@@ -1,14 +1,11 @@
 -- What `lay` asks at the start of a good cut, and what it then leaves.
 use Prim.Native.Nat.{ℕ, ◌+◌, ◌-◌, ◌≤◌, ◌<◌}
 use mathlib.Core.Path.{◌≡◌, refl, sym, ap, subst, ◌∙◌}
-use mathlib.Core.List.{List, []}
+use mathlib.Core.List.{List}
 use native.Mathlib.Omega.{arith}
 use lib.ListN.{length, take, drop, length-take}
 use Rattle.rules.specs.Fields.{length_at}
 use Rattle.runs.specs.Run.{levels}
-use Rattle.lent.specs.Lent.{front}
-use Rattle.runs.proofs.Bins.{levels_nil}
-use Rattle.index.specs.declared.RayRecord.{RayRecord}
 use Rattle.index.specs.declared.Pace.{Pace}
 use Rattle.index.specs.Index.{records}
 use Rattle.index.specs.Pace.{data_in, Along, Going}
@@ -20,33 +17,11 @@ use Rattle.base_format.specs.Good.{GoodCut}
 use Rattle.cuts.proofs.Places.{greatest_small, data_opens, all_levels, few_bins, ray_inside}
 use borrow.Author.Tests.{lt-leb, le-leb}
 use Rattle.sections.specs.Refusal.{refuse}
-use Rattle.sections.specs.declared.Refusal.{Refusal}
 use Rattle.sections.specs.declared.Why.TheVariants.{Room}
-use Rattle.calls.specs.Cuts.{cut_in, if_written}
-use Rattle.calls.specs.declared.RayAnswer.{RayAnswer}
-use Rattle.calls.specs.declared.RayAnswer.TheVariants.{Written, Refused}
-use Rattle.records.specs.declared.Task.{Task}
-use Rattle.records.specs.Records.{build_on, build_answer, row_after}
-use Rattle.records.specs.Building.{start_in, LaysIn, Begins}
+use Rattle.records.specs.Records.{build_on}
+use Rattle.records.specs.Building.{start_in}
 use Rattle.cuts.specs.Records.{records_in}
-
--- ---- nothing to lay
-abbrev nowhere : Pace
-nowhere = record { rec = record { offset = 0; before = 0 }; from = 0; to = 0; v = 0; nb = 0; bin = 0; hand = record { at = 0; bins = 0; end = 0; next = 0 } }
-
-pub none_going : (s : List ℕ) (p : Pace) → p ≡ nowhere → Going s p 0
-none_going s p e =
-    subst (λ (q : Pace). Going s q 0) (sym e)
-    (record {
-      order = omega arith;
-      reach = omega arith;
-      along = record { low = omega arith; few = omega (arith, ap length (levels_nil 0)); short = omega arith; ray = omega arith; before = omega arith; run = hand_first 0 [] refl };
-      left = λ k h. absurd (omega arith);
-    })
-
-pub none_laid : (n nb v : ℕ) (d : List ℕ) (a : ℕ) (row : List RayRecord) → n ≡ 0 → front (records n nb v d a) row ≡ row
-unfolding records
-none_laid n nb v d a row e = ap (λ (m : ℕ). front (records m nb v d a) row) e
+use Rattle.std.specs.Prelude.{Err, Ok}
 
 -- ---- a good cut
 module _ (s : List ℕ) (c : Cut) (g : GoodCut s c) where
@@ -79,39 +54,10 @@ module _ (s : List ℕ) (c : Cut) (g : GoodCut s c) where
 
 -- ---- what building goes by
 module _ (s : List ℕ) (room : ℕ) (c : Cut) where
-  pub build_short : room < rays_in s c → build_on s room c ≡ Refused (refuse Room 0)
+  pub build_short : room < rays_in s c → build_on s room c ≡ Err (refuse Room 0)
   unfolding build_on
   build_short h = rw (lt-leb _ _ h)
 
-  pub build_fits : rays_in s c ≤ room → build_on s room c ≡ Written
+  pub build_fits : rays_in s c ≤ room → build_on s room c ≡ (Ok tt)
   unfolding build_on
   build_fits h = rw (le-leb _ _ h)
-
-module _ (s : List ℕ) (b : Task) (why : Refusal) (none : b.rays ≡ 0) (going : Going s b.pace 0) (answer : b.answer ≡ Refused why) where
-  still : Going s b.pace b.rays
-  still = subst (λ (n : ℕ). Going s b.pace n) (sym none) going
-
-  pub none_lays : (c : Cut) (room : ℕ) → LaysIn s c room b
-  none_lays c room = record {
-    going = still;
-    fits = omega (arith, none);
-    laid = λ row. none_laid _ _ _ _ _ row none ∙ sym (ap (λ (a : RayAnswer). if_written a (front (records_in s c) row) row) answer);
-  }
-
-  pub none_begins : (i room : ℕ) → build_answer s i room ≡ Refused why → Begins s i room b
-  unfolding row_after
-  none_begins i room e = record {
-    answered = answer ∙ sym e;
-    going = still;
-    fits = omega (arith, none);
-    laid = λ row. none_laid _ _ _ _ _ row none ∙ sym (ap (λ (a : RayAnswer). if_written a (front (records_in s (cut_in s i)) row) row) answer);
-  }
-
-pub some_begins : (s : List ℕ) (i room : ℕ) (b : Task) (c : Cut) → b.answer ≡ build_answer s i room → LaysIn s c room b → cut_in s i ≡ c → Begins s i room b
-unfolding row_after
-some_begins s i room b c e l k = record {
-  answered = e;
-  going = l.going;
-  fits = l.fits;
-  laid = λ row. l.laid row ∙ sym (ap (λ (x : Cut). if_written b.answer (front (records_in s x) row) row) k);
-}

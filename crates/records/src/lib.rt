@@ -4,33 +4,23 @@
 // and `c_words` (the calls for C and Rust).
 #![tactic(auto)]
 
-ghost use Rattle.std.specs.Prelude.{◌≡◌, cond, min, length};
+ghost use Rattle.std.specs.Prelude.{◌≡◌, min, length};
 ghost use Rattle.lent.specs.Lent.{front};
 ghost use Rattle.index.specs.Pace.{Going};
 ghost use Rattle.values.specs.Ray.{marks_of, values_of};
 ghost use Rattle.sections.specs.Parts.{rays_in};
-ghost use Rattle.sections.specs.Refusal.{refuse};
 ghost use Rattle.base_format.specs.Parts.{product_in};
 ghost use Rattle.base_format.specs.Good.{AnyDataCut, GoodCut};
-ghost use Rattle.cuts.specs.Records.{ray_from};
+ghost use Rattle.cuts.specs.Records.{records_in, ray_from};
 ghost use Rattle.calls.specs.Cuts.{if_written};
 ghost use Rattle.records.specs.Records.{from_on, build_on};
 ghost use Rattle.records.specs.Promises.{BuildPromise, LevelsFromPromise, ValuesFromPromise};
-ghost use Rattle.records.specs.Building.{start_in, LaysIn, Begins};
+ghost use Rattle.records.specs.Building.{start_in};
 
-use calls::{RayAnswer, Sought};
 use index::{Pace, RayRecord};
-use sections::{Cut, Judged, Why};
+use sections::{Cut, Refusal, Why};
 
 // ---- building
-
-// What building goes by: the walk before the first ray, how many rays to lay, and what to answer.
-#[derive(Clone, Copy)]
-pub struct Task {
-    pub pace: Pace,
-    pub rays: usize,
-    pub answer: RayAnswer,
-}
 
 // The walk before the first ray of a good cut.
 fn start_in(file: &[u8], c: Cut) -> Pace
@@ -44,72 +34,33 @@ fn start_in(file: &[u8], c: Cut) -> Pace
     index::at_front(at + 5, at + len as usize, v, nb)
 }
 
-// Nothing is to be laid.
-fn nothing_laid(file: &[u8], answer: RayAnswer) -> Task
-    ensures { (result.answer ≡ answer) × (result.rays ≡ 0) × Going file.now result.pace 0 }
-{
-    Task {
-        pace: index::at_front(0, 0, 0, 0),
-        rays: 0,
-        answer,
-    }
-}
-
-fn task_on(file: &[u8], c: Cut, room: usize) -> Task
+fn build_on(file: &[u8], c: Cut, row: &mut [RayRecord]) -> Result<(), Refusal>
     requires { GoodCut file.now c }
-    ensures { (result.answer ≡ build_on file.now room c) × LaysIn file.now c room result }
+    ensures value { result ≡ build_on file.now (length row.old) c }
+    ensures row_after { row.new ≡ if_written result (front (records_in file.now c) row.old) row.old }
 {
-    let nr = sections::rays_in(file, c);
-    if room < nr {
-        return nothing_laid(file, RayAnswer::Refused(sections::refuse(Why::Room, 0)));
-    }
-    Task {
-        pace: start_in(file, c),
-        rays: nr,
-        answer: RayAnswer::Written,
-    }
-}
-
-fn task_for(file: &[u8], i: usize, room: usize) -> Task
-    ensures { Begins file.now i room result }
-{
-    match calls::find(file, i) {
-        Sought::Cut(c) => task_on(file, c, room),
-        Sought::Refused(refusal) => nothing_laid(file, RayAnswer::Refused(refusal)),
-    }
+    let rays = sections::rays_in(file, c);
+    sections::check(rays <= row.len(), Why::Room, 0)?;
+    index::lay(file, start_in(file, c), rays, row);
+    Ok(())
 }
 
 // Build an index: a record for each ray of cut i, at the front of row.
-pub fn build_index(file: &[u8], i: usize, row: &mut [RayRecord]) -> RayAnswer
+pub fn build_index(file: &[u8], i: usize, row: &mut [RayRecord]) -> Result<(), Refusal>
     ensures { BuildPromise file.now i row.old result row.new }
 {
-    let b = task_for(file, i, row.len());
-    index::lay(file, b.pace, b.rays, row);
-    b.answer
+    build_on(file, calls::find(file, i)?, row)
 }
 
 // ---- rays by a record
 
-// Written, or 13 where the record does not fit.
-fn by_record(c: Cut, fits: bool) -> RayAnswer
-    ensures { result ≡ cond fits RayAnswer.Written (RayAnswer.Refused (refuse Why.Record c.section7)) }
-{
-    if fits {
-        return RayAnswer::Written;
-    }
-    RayAnswer::Refused(sections::refuse(Why::Record, c.section7))
-}
-
-fn ray_levels_from_on(file: &[u8], c: Cut, ray: usize, rec: RayRecord, out: &mut [u8]) -> RayAnswer
+fn ray_levels_from_on(file: &[u8], c: Cut, ray: usize, rec: RayRecord, out: &mut [u8]) -> Result<(), Refusal>
     requires { AnyDataCut file.now c }
     ensures value { result ≡ from_on file.now ray rec (length out.old) c }
     ensures out_after { out.new ≡ if_written result (front (ray_from file.now c rec) out.old) out.old }
 {
-    let judged = calls::judge_ray(file, c, ray, out.len());
-    if let Judged::Refused(refusal) = judged {
-        return RayAnswer::Refused(refusal);
-    }
-    by_record(c, cuts::levels_from(file, c, rec, out))
+    calls::judge_ray(file, c, ray, out.len())?;
+    sections::check(cuts::levels_from(file, c, rec, out), Why::Record, c.section7)
 }
 
 // Ray levels by a record: what decoding from there gives, Nb octets at the front of out. The data before it is not looked at.
@@ -119,13 +70,10 @@ pub fn ray_levels_from(
     ray: usize,
     rec: RayRecord,
     out: &mut [u8],
-) -> RayAnswer
+) -> Result<(), Refusal>
     ensures { LevelsFromPromise file.now i ray rec out.old result out.new }
 {
-    match calls::find_any(file, i) {
-        Sought::Cut(c) => ray_levels_from_on(file, c, ray, rec, out),
-        Sought::Refused(refusal) => RayAnswer::Refused(refusal),
-    }
+    ray_levels_from_on(file, calls::find_any(file, i)?, ray, rec, out)
 }
 
 fn ray_values_from_on(
@@ -135,18 +83,16 @@ fn ray_values_from_on(
     rec: RayRecord,
     marks: &mut [u8],
     values: &mut [i32],
-) -> RayAnswer
+) -> Result<(), Refusal>
     requires { AnyDataCut file.now c }
     ensures value { result ≡ from_on file.now ray rec (min (length marks.old) (length values.old)) c }
     ensures marks_after { marks.new ≡ if_written result (marks_of (product_in file.now c) (ray_from file.now c rec) marks.old) marks.old }
     ensures values_after { values.new ≡ if_written result (values_of (product_in file.now c) (ray_from file.now c rec) values.old) values.old }
 {
     let room = lent::least(marks.len(), values.len());
-    let judged = calls::judge_ray(file, c, ray, room);
-    if let Judged::Refused(refusal) = judged {
-        return RayAnswer::Refused(refusal);
-    }
-    by_record(c, cuts::readings_from(file, c, rec, marks, values))
+    calls::judge_ray(file, c, ray, room)?;
+    let fits = cuts::readings_from(file, c, rec, marks, values);
+    sections::check(fits, Why::Record, c.section7)
 }
 
 // Ray values by a record: Nb marks, and the value at each measured place, of what decoding from there gives.
@@ -157,11 +103,8 @@ pub fn ray_values_from(
     rec: RayRecord,
     marks: &mut [u8],
     values: &mut [i32],
-) -> RayAnswer
+) -> Result<(), Refusal>
     ensures { ValuesFromPromise file.now i ray rec marks.old values.old result marks.new values.new }
 {
-    match calls::find_any(file, i) {
-        Sought::Cut(c) => ray_values_from_on(file, c, ray, rec, marks, values),
-        Sought::Refused(refusal) => RayAnswer::Refused(refusal),
-    }
+    ray_values_from_on(file, calls::find_any(file, i)?, ray, rec, marks, values)
 }

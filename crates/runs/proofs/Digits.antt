@@ -9,11 +9,11 @@ use lib.ListN.{length, drop, get_or, drop_of_length-le}
 use lib.Dec.{leb}
 use Rattle.runs.specs.Run.{base, run_len}
 use Rattle.runs.specs.Inner.{digit_count, run_next, known_step}
-use Rattle.runs.specs.declared.Step.TheVariants.{Run, End}
 use borrow.Author.Tests.{eq-eqb, ne_eqb}
 use Rattle.lent.proofs.Lent.{drop_here}
 use Rattle.runs.proofs.Bins.{Weighs, weighs_same, next_weighs, same_digit}
 use Rattle.runs.proofs.Steps.{dsum, dsum_nil, dsum_open, dsum_digit, digit_sum_is, digit_count_nil, digit_count_open, digit_count_digit}
+use Rattle.std.specs.Prelude.{None, Some}
 
 -- the digits from i on, weighed truly, make up what is left of the run at a place
 pub record Still (v : ℕ) (s : List ℕ) (at i len w : ℕ) : Type 0 where
@@ -70,10 +70,10 @@ module _ {v : ℕ} {s : List ℕ} {at i len w : ℕ} (k : Still v s at i len w) 
 
 -- ---- what the step answers there
 module _ (v left : ℕ) (s : List ℕ) (at : ℕ) where
-  pub known_none : left ≡ 0 → End ≡ known_step v left s at
+  pub known_none : left ≡ 0 → None ≡ known_step v left s at
   unfolding known_step
   known_none h = simp (eq-eqb left 0 h)
 
-  pub known_is : (left ≡ 0 → ⊥) → (len next : ℕ) → (len ≡ run_len v s at) × (next ≡ run_next v s at) → Run (get_or s at 0) len next ≡ known_step v left s at
+  pub known_is : (left ≡ 0 → ⊥) → (len next : ℕ) → (len ≡ run_len v s at) × (next ≡ run_next v s at) → Some (record { level = get_or s at 0; len = len; next = next }) ≡ known_step v left s at
   unfolding known_step
-  known_is h len next k = simp (ne_eqb left 0 h) (λ i. Run (get_or s at 0) (k.0 i) (k.1 i))
+  known_is h len next k = simp (ne_eqb left 0 h) (λ i. Some (record { level = get_or s at 0; len = k.0 i; next = k.1 i }))

@@ -11,11 +11,12 @@ use borrow.Author.Tests.{le-leb, leb-true, eqb-true, eqb-false}
 use Rattle.runs.specs.Run.{digit_sum, levels, opens, gives, run_len}
 use Rattle.runs.specs.Inner.{digit_count, run_next, known_step, Stands, InHand, Holds}
 use Rattle.runs.specs.declared.RunInHand.{RunInHand}
-use Rattle.runs.specs.declared.Step.TheVariants.{Run, End}
 use Rattle.octets.proofs.Orders.{by_order}
 use Rattle.lent.proofs.Lent.{drop_here}
 use Rattle.runs.proofs.Bins.{levels_nil, levels_open, levels_digit}
 use Rattle.runs.proofs.Steps.{digit_count_nil, digit_count_open, digit_count_digit}
+use Rattle.runs.specs.declared.Run.{Run}
+use Rattle.std.specs.Prelude.{None, Some}
 
 -- ---- every level is at most V
 pub append_le : (v : ℕ) (a b : List ℕ) → ((k : ℕ) → get_or a k 0 ≤ v) → ((k : ℕ) → get_or b k 0 ≤ v) → (k : ℕ) → get_or (a ++ b) k 0 ≤ v
@@ -148,21 +149,24 @@ module _ (v : ℕ) (s : List ℕ) (at bins : ℕ) (k : Stands v s at bins) (more
 
 -- ---- what the step tells where the run is known
 module _ (v left : ℕ) (s : List ℕ) (at : ℕ) where
-  pub known_ended : End ≡ known_step v left s at → left ≡ 0
+  abbrev known : Run
+  known = record { level = get_or s at 0; len = run_len v s at; next = run_next v s at }
+
+  pub known_ended : None ≡ known_step v left s at → left ≡ 0
   unfolding known_step
   known_ended e = split (eqb left 0) refl e
     where
-      split : (b : Bool) → eqb left 0 ≡ b → End ≡ cond b End (Run (get_or s at 0) (run_len v s at) (run_next v s at)) → left ≡ 0
+      split : (b : Bool) → eqb left 0 ≡ b → None ≡ cond b None (Some known) → left ≡ 0
       split true t e = eqb-true left 0 t
       split false t e = absurd (let z : ◌≡◌ {A = ℕ} 0 1 = cc e in omega arith)
 
-  pub known_told : (x y z : ℕ) → Run x y z ≡ known_step v left s at → (0 < left) × (x ≡ get_or s at 0) × (y ≡ run_len v s at) × (z ≡ run_next v s at)
+  pub known_told : (r : Run) → Some r ≡ known_step v left s at → (0 < left) × (r.level ≡ get_or s at 0) × (r.len ≡ run_len v s at) × (r.next ≡ run_next v s at)
   unfolding known_step
-  known_told x y z e = split (eqb left 0) refl e
+  known_told r e = split (eqb left 0) refl e
     where
-      split : (b : Bool) → eqb left 0 ≡ b → Run x y z ≡ cond b End (Run (get_or s at 0) (run_len v s at) (run_next v s at)) → (0 < left) × (x ≡ get_or s at 0) × (y ≡ run_len v s at) × (z ≡ run_next v s at)
+      split : (b : Bool) → eqb left 0 ≡ b → Some r ≡ cond b None (Some known) → (0 < left) × (r.level ≡ get_or s at 0) × (r.len ≡ run_len v s at) × (r.next ≡ run_next v s at)
       split true t e = absurd (let z : ◌≡◌ {A = ℕ} 0 1 = cc e in omega arith)
-      split false t e = (omega (arith, eqb-false left 0 t), cc e, cc e, cc e)
+      split false t e = let is : r ≡ known = cc e in (omega (arith, eqb-false left 0 t), λ i. (is i).level, λ i. (is i).len, λ i. (is i).next)
 
 -- ---- octets that give so many bins
 both : (x y : Bool) → cond x y false ≡ true → (x ≡ true) × (y ≡ true)

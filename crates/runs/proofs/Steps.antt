@@ -12,11 +12,11 @@ use lib.Dec.{leb, ltb}
 use borrow.Author.Tests.{le-leb, lt-leb, lt-ltb, le-ltb, eq-eqb, ne_eqb}
 use Rattle.runs.specs.Run.{base, digit_sum, run_len}
 use Rattle.runs.specs.Inner.{digit_count, run_next, cut_step}
-use Rattle.runs.specs.declared.Step.{Step}
-use Rattle.runs.specs.declared.Step.TheVariants.{Run, End}
 use Rattle.octets.proofs.Orders.{by_order}
 use Rattle.lent.proofs.Lent.{drop_here}
 use Rattle.runs.proofs.Bins.{Weighs, weighs_same, next_weighs, same_digit}
+use Rattle.runs.specs.declared.Run.{Run}
+use Rattle.std.specs.Prelude.{None, Option, Some}
 
 -- the sum of the digits at the front, the first of them with the weight w
 unfoldable pub dsum : ℕ → ℕ → List ℕ → ℕ
@@ -56,19 +56,19 @@ unfolding digit_count
 digit_count_digit v o s h = simp (lt-leb o v h)
 
 -- as the code reads on: i is the place of the next octet, and `over` the answer where the run is longer than the cap
-module _ (v cap : ℕ) (over : Step) (l : ℕ) where
-  unfoldable pub go_on : ℕ → ℕ → ℕ → List ℕ → Step
-  go_on len w i [] = Run l len i
+module _ (v cap : ℕ) (over : Option Run) (l : ℕ) where
+  unfoldable pub go_on : ℕ → ℕ → ℕ → List ℕ → Option Run
+  go_on len w i [] = Some (record { level = l; len = len; next = i })
   go_on len w i (o ∷ s) =
-      cond (leb o v) (Run l len i)
+      cond (leb o v) (Some (record { level = l; len = len; next = i }))
       (cond (ltb cap (len + (o - v - 1) * w)) over (go_on (len + (o - v - 1) * w) (cond (leb w cap) (w * base v) w) (i + 1) s))
 
-  go_on_nil : (len w i : ℕ) → go_on len w i [] ≡ Run l len i
+  go_on_nil : (len w i : ℕ) → go_on len w i [] ≡ Some (record { level = l; len = len; next = i })
   unfolding go_on
   go_on_nil len w i = refl
 
   module _ (len w i o : ℕ) (s : List ℕ) where
-    go_on_stop : o ≤ v → go_on len w i (o ∷ s) ≡ Run l len i
+    go_on_stop : o ≤ v → go_on len w i (o ∷ s) ≡ Some (record { level = l; len = len; next = i })
     unfolding go_on
     go_on_stop h = simp (le-leb o v h)
 
@@ -81,10 +81,10 @@ module _ (v cap : ℕ) (over : Step) (l : ℕ) where
     go_on_digit h g = simp (lt-leb o v h, le-ltb cap (len + (o - v - 1) * w) g)
 
   -- what comes of it, by a length and a place
-  abbrev ends : ℕ → ℕ → Step
-  ends len i = cond (leb len cap) (Run l len i) over
+  abbrev ends : ℕ → ℕ → Option Run
+  ends len i = cond (leb len cap) (Some (record { level = l; len = len; next = i })) over
 
-  ends_fit : (len i : ℕ) → len ≤ cap → Run l len i ≡ ends len i
+  ends_fit : (len i : ℕ) → len ≤ cap → Some (record { level = l; len = len; next = i }) ≡ ends len i
   ends_fit len i h = simp (le-leb len cap h)
 
   ends_over : (len i : ℕ) → cap < len → over ≡ ends len i
@@ -111,33 +111,33 @@ module _ (v cap : ℕ) (over : Step) (l : ℕ) where
   run_start low at s h = go_on_right low (drop (at + 1) s) 1 1 1 (at + 1) h (weighs_same cap 1) ∙ ends_eq (omega (arith, digit_sum_is v (drop (at + 1) s))) refl
 
   -- along a list, by the place i of the next octet
-  module _ (len w i : ℕ) (octets : List ℕ) (X : Step) where
+  module _ (len w i : ℕ) (octets : List ℕ) (X : Option Run) where
     pub go_digit : i < length octets → v < get_or octets i 0 → len + (get_or octets i 0 - v - 1) * w ≤ cap → go_on len w i (drop i octets) ≡ X → go_on (len + (get_or octets i 0 - v - 1) * w) (cond (leb w cap) (w * base v) w) (i + 1) (drop (i + 1) octets) ≡ X
     go_digit hi ho hb e = sym (go_on_digit len w i _ _ ho hb) ∙ (rw (drop_here octets i hi) at e)
 
     pub go_over : i < length octets → v < get_or octets i 0 → cap < len + (get_or octets i 0 - v - 1) * w → go_on len w i (drop i octets) ≡ X → over ≡ X
     go_over hi ho hb e = sym (go_on_over len w i _ _ ho hb) ∙ (rw (drop_here octets i hi) at e)
 
-    pub go_stop : i < length octets → get_or octets i 0 ≤ v → go_on len w i (drop i octets) ≡ X → Run l len i ≡ X
+    pub go_stop : i < length octets → get_or octets i 0 ≤ v → go_on len w i (drop i octets) ≡ X → Some (record { level = l; len = len; next = i }) ≡ X
     go_stop hi ho e = sym (go_on_stop len w i _ _ ho) ∙ (rw (drop_here octets i hi) at e)
 
-    pub go_end : length octets ≤ i → go_on len w i (drop i octets) ≡ X → Run l len i ≡ X
+    pub go_end : length octets ≤ i → go_on len w i (drop i octets) ≡ X → Some (record { level = l; len = len; next = i }) ≡ X
     go_end hi e = sym (go_on_nil len w i) ∙ (rw (drop_of_length-le octets hi) at e)
 
 -- ---- the step over any octets
 module _ (v left : ℕ) (s : List ℕ) (at : ℕ) where
-  pub cut_none : left ≡ 0 → End ≡ cut_step v left s at
+  pub cut_none : left ≡ 0 → None ≡ cut_step v left s at
   unfolding cut_step
   cut_none h = simp (eq-eqb left 0 h)
 
-  pub cut_end : (left ≡ 0 → ⊥) → length s ≤ at → End ≡ cut_step v left s at
+  pub cut_end : (left ≡ 0 → ⊥) → length s ≤ at → None ≡ cut_step v left s at
   unfolding cut_step
   cut_end h g = simp (ne_eqb left 0 h, le-leb (length s) at g)
 
-  cut_run : (left ≡ 0 → ⊥) → at < length s → cond (leb (run_len v s at) left) (Run (get_or s at 0) (run_len v s at) (run_next v s at)) (Run (get_or s at 0) left at) ≡ cut_step v left s at
+  cut_run : (left ≡ 0 → ⊥) → at < length s → cond (leb (run_len v s at) left) (Some (record { level = get_or s at 0; len = run_len v s at; next = run_next v s at })) (Some (record { level = get_or s at 0; len = left; next = at })) ≡ cut_step v left s at
   unfolding cut_step
   cut_run h g = simp (ne_eqb left 0 h, lt-leb (length s) at g)
 
   -- as the loop over the digits begins
-  pub cut_start : v ≤ 253 → (left ≡ 0 → ⊥) → at < length s → go_on v left (Run (get_or s at 0) left at) (get_or s at 0) 1 1 (at + 1) (drop (at + 1) s) ≡ cut_step v left s at
-  cut_start low h g = run_start v left (Run (get_or s at 0) left at) (get_or s at 0) low at s (omega arith) ∙ cut_run h g
+  pub cut_start : v ≤ 253 → (left ≡ 0 → ⊥) → at < length s → go_on v left (Some (record { level = get_or s at 0; len = left; next = at })) (get_or s at 0) 1 1 (at + 1) (drop (at + 1) s) ≡ cut_step v left s at
+  cut_start low h g = run_start v left (Some (record { level = get_or s at 0; len = left; next = at })) (get_or s at 0) low at s (omega arith) ∙ cut_run h g

@@ -7,12 +7,13 @@ use native.Mathlib.Omega.{arith}
 use lib.ListN.{length, get_or, length-drop}
 use lib.Dec.{leb, eqb}
 use borrow.Author.Tests.{le-leb, lt-leb, leb-true, leb-false, eq-eqb, ne_eqb, eqb-true, eqb-false}
-use Rattle.runs.specs.declared.Step.TheVariants.{Run, End}
 use Rattle.runs.specs.Run.{levels, run_len}
 use Rattle.runs.specs.Inner.{run_next, cut_step, Stands}
 use Rattle.octets.proofs.Orders.{by_order}
 use Rattle.lent.proofs.Lent.{drop_here}
 use Rattle.runs.proofs.Here.{here_fits, here_next, levels_past, run_fits}
+use Rattle.runs.specs.declared.Run.{Run}
+use Rattle.std.specs.Prelude.{None, Some}
 
 -- ---- what the step tells
 pub record CutOff (v : ℕ) (s : List ℕ) (at left level len next : ℕ) : Type 0 where
@@ -23,29 +24,37 @@ pub record CutOff (v : ℕ) (s : List ℕ) (at left level len next : ℕ) : Type
   pub past : run_len v s at ≤ left → next ≡ run_next v s at
 
 module _ (v left : ℕ) (s : List ℕ) (at : ℕ) where
-  pub cut_told : (x y z : ℕ) → Run x y z ≡ cut_step v left s at → CutOff v s at left x y z
+  abbrev whole : Run
+  whole = record { level = get_or s at 0; len = run_len v s at; next = run_next v s at }
+
+  abbrev part : Run
+  part = record { level = get_or s at 0; len = left; next = at }
+
+  pub cut_told : (r : Run) → Some r ≡ cut_step v left s at → CutOff v s at left r.level r.len r.next
   unfolding cut_step
-  cut_told x y z e = split (eqb left 0) (leb (length s) at) (leb (run_len v s at) left) refl refl refl e
+  cut_told r e = split (eqb left 0) (leb (length s) at) (leb (run_len v s at) left) refl refl refl e
     where
       split : (a b c : Bool) → eqb left 0 ≡ a → leb (length s) at ≡ b → leb (run_len v s at) left ≡ c
-          → Run x y z ≡ cond a End (cond b End (cond c (Run (get_or s at 0) (run_len v s at) (run_next v s at)) (Run (get_or s at 0) left at))) → CutOff v s at left x y z
+          → Some r ≡ cond a None (cond b None (cond c (Some whole) (Some part))) → CutOff v s at left r.level r.len r.next
       split true b c ea eb ec e = absurd (let w : ◌≡◌ {A = ℕ} 0 1 = cc e in omega arith)
       split false true c ea eb ec e = absurd (let w : ◌≡◌ {A = ℕ} 0 1 = cc e in omega arith)
       split false false true ea eb ec e =
           let fits = leb-true (run_len v s at) left ec in
-          let size : y ≡ run_len v s at = cc e in
-          record { wanted = omega (arith, eqb-false left 0 ea); inside = leb-false (length s) at eb; is = cc e; size = omega arith; past = λ _. cc e }
+          let is : r ≡ whole = cc e in
+          let size : r.len ≡ run_len v s at = λ i. (is i).len in
+          record { wanted = omega (arith, eqb-false left 0 ea); inside = leb-false (length s) at eb; is = λ i. (is i).level; size = omega arith; past = λ _ i. (is i).next }
       split false false false ea eb ec e =
           let over = leb-false (run_len v s at) left ec in
-          let size : y ≡ left = cc e in
-          record { wanted = omega (arith, eqb-false left 0 ea); inside = leb-false (length s) at eb; is = cc e; size = omega arith; past = λ h. absurd (omega arith) }
+          let is : r ≡ part = cc e in
+          let size : r.len ≡ left = λ i. (is i).len in
+          record { wanted = omega (arith, eqb-false left 0 ea); inside = leb-false (length s) at eb; is = λ i. (is i).level; size = omega arith; past = λ h. absurd (omega arith) }
 
-  pub cut_ended_lem : End ≡ cut_step v left s at → 0 < left → length s ≤ at
+  pub cut_ended_lem : None ≡ cut_step v left s at → 0 < left → length s ≤ at
   unfolding cut_step
   cut_ended_lem e some = split (eqb left 0) (leb (length s) at) (leb (run_len v s at) left) refl refl e
     where
       split : (a b c : Bool) → eqb left 0 ≡ a → leb (length s) at ≡ b
-          → End ≡ cond a End (cond b End (cond c (Run (get_or s at 0) (run_len v s at) (run_next v s at)) (Run (get_or s at 0) left at))) → length s ≤ at
+          → None ≡ cond a None (cond b None (cond c (Some whole) (Some part))) → length s ≤ at
       split true b c ea eb e = absurd (omega (arith, eqb-true left 0 ea))
       split false true c ea eb e = leb-true (length s) at eb
       split false false true ea eb e = absurd (let w : ◌≡◌ {A = ℕ} 0 1 = cc e in omega arith)
@@ -85,7 +94,7 @@ module _ (v : ℕ) (s : List ℕ) (want at bins : ℕ) (k : Upto v s want at bin
         )
 
   -- at the end all bins are read, or the octets give fewer
-  pub upto_ended : End ≡ cut_step v (want - bins) s at → eqb bins want ≡ leb want (length (levels v s))
+  pub upto_ended : None ≡ cut_step v (want - bins) s at → eqb bins want ≡ leb want (length (levels v s))
   upto_ended e =
       by_order want bins
       (λ all. eq-eqb bins want (omega (arith, k.few)) ∙ sym (le-leb want (length (levels v s)) (omega (arith, k.within))))
@@ -96,5 +105,5 @@ module _ (v : ℕ) (s : List ℕ) (want at bins : ℕ) (k : Upto v s want at bin
       ne_eqb bins want (λ same. omega arith) ∙ sym (lt-leb want (length (levels v s)) (omega arith)))
 
   -- where they give as many as are wanted, all are read
-  pub upto_all : End ≡ cut_step v (want - bins) s at → want ≤ length (levels v s) → bins ≡ want
+  pub upto_all : None ≡ cut_step v (want - bins) s at → want ≤ length (levels v s) → bins ≡ want
   upto_all e enough = eqb-true bins want (upto_ended e ∙ le-leb want (length (levels v s)) enough)

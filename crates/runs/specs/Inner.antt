@@ -1,9 +1,8 @@
 -- What the functions over runs ask of each other and leave: no promise of a call cites these.
-use Rattle.std.specs.Prelude.{ℕ, ◌+◌, ◌≤◌, ◌<◌, ◌≡◌, List, [], ◌∷◌, true, cond, length, drop, get_or, leb, eqb}
+use Rattle.std.specs.Prelude.{ℕ, ◌+◌, ◌≤◌, ◌<◌, ◌≡◌, List, [], ◌∷◌, true, cond, length, drop, get_or, leb, eqb, None, Option, Some}
 use Rattle.runs.specs.Run.{levels, opens, run_len}
 use Rattle.runs.specs.declared.RunInHand.{RunInHand}
-use Rattle.runs.specs.declared.Step.{Step}
-use Rattle.runs.specs.declared.Step.TheVariants.{Run, End}
+use Rattle.runs.specs.declared.Run.{Run}
 
 -- how many digits stand at the front
 unfoldable pub digit_count : ℕ → List ℕ → ℕ
@@ -15,15 +14,15 @@ abbrev pub run_next : ℕ → List ℕ → ℕ → ℕ
 run_next v s at = at + 1 + digit_count v (drop (at + 1) s)
 
 -- the step where the run is known: the end where nothing is left to want
-unfoldable pub known_step : ℕ → ℕ → List ℕ → ℕ → Step
-known_step v left s at = cond (eqb left 0) End (Run (get_or s at 0) (run_len v s at) (run_next v s at))
+unfoldable pub known_step : ℕ → ℕ → List ℕ → ℕ → Option Run
+known_step v left s at = cond (eqb left 0) None (Some (record { level = get_or s at 0; len = run_len v s at; next = run_next v s at }))
 
 -- the step over any octets, cut off at what is left to want: the end where that is nothing, or the octets end
-unfoldable pub cut_step : ℕ → ℕ → List ℕ → ℕ → Step
+unfoldable pub cut_step : ℕ → ℕ → List ℕ → ℕ → Option Run
 cut_step v left s at =
-    cond (eqb left 0) End
-    (cond (leb (length s) at) End
-    (cond (leb (run_len v s at) left) (Run (get_or s at 0) (run_len v s at) (run_next v s at)) (Run (get_or s at 0) left at)))
+    cond (eqb left 0) None
+    (cond (leb (length s) at) None
+    (cond (leb (run_len v s at) left) (Some (record { level = get_or s at 0; len = run_len v s at; next = run_next v s at })) (Some (record { level = get_or s at 0; len = left; next = at }))))
 
 -- where reading stands: `bins` of the levels were read, and those of the octets from `at` on come after them
 pub record Stands (v : ℕ) (s : List ℕ) (at bins : ℕ) : Type 0 where

@@ -9,21 +9,23 @@ ghost use Rattle.lent.specs.Lent.{front, between};
 ghost use Rattle.runs.specs.Run.{levels, opens, run_len};
 ghost use Rattle.runs.specs.Inner.{known_step, cut_step, InHand, Holds};
 
-// A step over runs: the run at a place, with the place past its digits; or the end, where nothing more is wanted or nothing more is there.
-#[derive(Clone, Copy)]
-pub enum Step {
-    Run { level: u8, len: usize, next: usize },
-    End,
+// A run: its level, the bins that it gives, and the place past its digits. A step over runs answers one, or None where nothing more is wanted or nothing
+// more is there.
+#[derive(Clone, Copy, Debug, PartialEq, Eq)]
+pub struct Run {
+    pub level: u8,
+    pub len: usize,
+    pub next: usize,
 }
 
 // The run at a place, as long as something is wanted, where the run is known to be there and to be no longer than the bins of the largest cut: what a
 // scan has shown is not tested again.
-pub fn known_run(octets: &[u8], v: u8, at: usize, left: usize) -> Step
+pub fn known_run(octets: &[u8], v: u8, at: usize, left: usize) -> Option<Run>
     requires { (v ≤ 253) × (0 < left → (at < length octets.now) × (run_len v octets.now at ≤ 2097152)) }
     ensures { result ≡ known_step v left octets.now at }
 {
     if left == 0 {
-        return Step::End;
+        return None;
     }
     let level = octets[at];
     let base = 255 - v as usize; // of a run that is known
@@ -41,24 +43,24 @@ pub fn known_run(octets: &[u8], v: u8, at: usize, left: usize) -> Step
             weight *= base;
         }
     }
-    Step::Run {
+    Some(Run {
         level,
         len,
         next: i,
-    }
+    })
 }
 
 // The run at a place, cut off at the bins that are wanted: for octets that no scan has looked at, whose runs may be of any length. Of a run that is cut off the place
 // past its digits is not sought.
-pub fn run_upto(octets: &[u8], v: u8, at: usize, left: usize) -> Step
+pub fn run_upto(octets: &[u8], v: u8, at: usize, left: usize) -> Option<Run>
     requires { (v ≤ 253) × (left ≤ 1099511627775) }
     ensures { result ≡ cut_step v left octets.now at }
 {
     if left == 0 {
-        return Step::End;
+        return None;
     }
     if octets.len() <= at {
-        return Step::End;
+        return None;
     }
     let level = octets[at];
     let base = 255 - v as usize;
@@ -72,22 +74,22 @@ pub fn run_upto(octets: &[u8], v: u8, at: usize, left: usize) -> Step
         }
         len += (o - v - 1) as usize * weight;
         if left < len {
-            return Step::Run {
+            return Some(Run {
                 level,
                 len: left,
                 next: at,
-            };
+            });
         }
         i += 1;
         if weight <= left {
             weight *= base;
         }
     }
-    Step::Run {
+    Some(Run {
         level,
         len,
         next: i,
-    }
+    })
 }
 
 // What x has above y.
@@ -116,27 +118,17 @@ pub fn seek_from(octets: &[u8], v: u8, from: RunInHand, a: usize) -> RunInHand
     let mut bins = from.bins;
     let mut end = from.end;
     let mut next = from.next;
-    loop {
-        match known_run(octets, v, next, excess(a + 1, end)) {
-            Step::Run {
-                level: _,
-                len,
-                next: past,
-            } => {
-                at = next;
-                bins = end;
-                end += len;
-                next = past;
-            }
-            Step::End => {
-                return RunInHand {
-                    at,
-                    bins,
-                    end,
-                    next,
-                };
-            }
-        }
+    while let Some(run) = known_run(octets, v, next, excess(a + 1, end)) {
+        at = next;
+        bins = end;
+        end += run.len;
+        next = run.next;
+    }
+    RunInHand {
+        at,
+        bins,
+        end,
+        next,
     }
 }
 
@@ -176,19 +168,13 @@ pub fn levels_upto(octets: &[u8], v: u8, a: usize, b: usize, out: &mut [u8]) -> 
 {
     let mut at: usize = 0;
     let mut bins: usize = 0;
-    loop {
-        match run_upto(octets, v, at, b - bins) {
-            Step::Run { level, len, next } => {
-                let to = bins + len;
-                lent::stamp(out, excess(bins, a), excess(to, a), level);
-                bins = to;
-                at = next;
-            }
-            Step::End => {
-                return bins == b;
-            }
-        }
+    while let Some(run) = run_upto(octets, v, at, b - bins) {
+        let to = bins + run.len;
+        lent::stamp(out, excess(bins, a), excess(to, a), run.level);
+        bins = to;
+        at = run.next;
     }
+    bins == b
 }
 
 // The same of octets that are known to give no more than the bins of the largest cut: the runs before bin a are passed over.

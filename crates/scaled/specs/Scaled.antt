@@ -1,10 +1,8 @@
 -- Simple packing: what a cell of section 7 tells (FORMAT.md, "Dual-polarisation files", Cells), over whole numbers.
-use Rattle.std.specs.Prelude.{◌≡◌, ◌⊎◌, Bool, true, false, not, cond, ℕ, ◌+◌, ◌-◌, ◌*◌, ◌/◌, ◌%◌, ◌^◌, ◌≤◌, eqb, leb, ℤ, pos, neg_ℤ, ◌+ℤ◌, Float}
+use Rattle.std.specs.Prelude.{◌≡◌, ◌⊎◌, Bool, true, false, not, cond, ℕ, ◌+◌, ◌-◌, ◌*◌, ◌/◌, ◌%◌, ◌^◌, ◌≤◌, eqb, leb, ℤ, pos, neg_ℤ, ◌+ℤ◌, Float, None, Option, Some}
 use Rattle.std.specs.Float.{fin, binary32, binary64}
 use Rattle.std.specs.Float.Ieee.{add, div, of_int, of_bits}
 use Rattle.fraction.specs.Near.{NearZ}
-use Rattle.scaled.specs.declared.Cell.{Cell}
-use Rattle.scaled.specs.declared.Cell.TheVariants.{Missing, Value}
 
 -- the IEEE single, in four octets: seeeeeee emmmmmmm mmmmmmmm mmmmmmmm; s is 0 for positive, 1 for negative
 abbrev pub negative_single : ℕ → Bool
@@ -45,13 +43,13 @@ unfoldable pub scaled_value : ℕ → ℕ → ℕ → ℕ → Float
 scaled_value b z e d = div binary64 (add binary64 (of_bits binary32 b) (of_int binary64 (pos (z * 2 ^ e)))) (of_int binary64 (pos (10 ^ d)))
 
 -- all ones in a cell of `width` bits: no value
-unfoldable pub cell_of : ℕ → ℕ → ℕ → ℕ → ℕ → Cell
-cell_of width b e d z = cond (eqb z (2 ^ width - 1)) Missing (Value (scaled_value b z e d))
+unfoldable pub cell_of : ℕ → ℕ → ℕ → ℕ → ℕ → Option Float
+cell_of width b e d z = cond (eqb z (2 ^ width - 1)) None (Some (scaled_value b z e d))
 
 -- a cell that tells a number tells the right one
-abbrev pub RightCell : Cell → ℕ → ℕ → ℕ → ℕ → Type 0
-RightCell Missing b z e d = Unit {0}
-RightCell (Value y) b z e d = Right y b z e d
+abbrev pub RightCell : Option Float → ℕ → ℕ → ℕ → ℕ → Type 0
+RightCell None b z e d = Unit {0}
+RightCell (Some y) b z e d = Right y b z e d
 
 -- what section 5 must hold: R finite, E 0 to 2, D 0 to 4, 8 or 16 bits to a cell
 pub record Packing (b e d width : ℕ) : Type 0 where

@@ -6,13 +6,6 @@
 ghost use Rattle.std.specs.Prelude.{◌≡◌, true, ◌⊎◌, ◌-◌, ◌^◌, ◌≤◌};
 ghost use Rattle.scaled.specs.Scaled.{finite_single, scaled_value, cell_of, RightCell, Packing};
 
-// No value, or the value.
-#[derive(Clone, Copy)]
-pub enum Cell {
-    Missing,
-    Value(f64),
-}
-
 // Whether the four octets of R hold a number: the exponent is not all ones.
 pub fn is_finite(bits: u32) -> bool
     ensures { result ≡ finite_single bits }
@@ -76,14 +69,14 @@ fn unpack(bits: u32, e: u16, d: u16, z: u16) -> f64
     ((r as f64) + (n as f64)) / (p as f64)
 }
 
-// What a cell of `width` bits tells that holds z.
-pub fn cell_of(bits: u32, e: u16, d: u16, width: u8, z: u16) -> Cell
+// The value that a cell of `width` bits tells that holds z; None where it is missing.
+pub fn cell_of(bits: u32, e: u16, d: u16, width: u8, z: u16) -> Option<f64>
     requires { Packing bits e d width }
     ensures exact { result ≡ cell_of width bits e d z }
     ensures near { RightCell result bits z e d }
 {
     if z == all_ones(width) {
-        return Cell::Missing;
+        return None;
     }
-    Cell::Value(unpack(bits, e, d, z))
+    Some(unpack(bits, e, d, z))
 }

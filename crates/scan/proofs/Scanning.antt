@@ -11,30 +11,29 @@ use lib.Dec.{leb, ltb, eqb}
 use borrow.Author.Tests.{le-leb, lt-leb, lt-ltb, le-ltb, eq-eqb, ne_eqb}
 use Rattle.runs.specs.Run.{base, gives, fault_at}
 use Rattle.scan.specs.Inner.{scanned}
-use Rattle.scan.specs.declared.Scan.{Scan}
-use Rattle.scan.specs.declared.Scan.TheVariants.{Exact, Off}
 use Rattle.octets.proofs.Orders.{by_order}
 use Rattle.runs.proofs.Bins.{rest, rest_nil, rest_open, rest_digit, rest_bins, gives_nil, gives_level, gives_above, Weighs, weighs_same, next_weighs, same_digit}
 use Rattle.runs.proofs.Reach.{reach, reach_nil, reach_full, reach_open, reach_past, reach_digit, fault_above, fault_reach}
 use Rattle.runs.proofs.Fault.{fault_inside}
 use Rattle.lent.proofs.Lent.{drop_here}
+use Rattle.std.specs.Prelude.{Err, Ok, Result, ⊤}
 
 -- so many bins where so many are wanted; else the place i
-abbrev pub verdict : ℕ → ℕ → ℕ → Scan
-verdict bins left i = cond (eqb bins left) Exact (Off i)
+abbrev pub verdict : ℕ → ℕ → ℕ → Result ⊤ ℕ
+verdict bins left i = cond (eqb bins left) (Ok tt) (Err i)
 
 -- in a run, the next digit's weight w, at the place i
-unfoldable pub in_run : ℕ → ℕ → ℕ → ℕ → List ℕ → Scan
+unfoldable pub in_run : ℕ → ℕ → ℕ → ℕ → List ℕ → Result ⊤ ℕ
 in_run v left w i [] = verdict 0 left i
 in_run v left w i (o ∷ s) =
     cond (leb o v)
-    (cond (leb 1 left) (in_run v (left - 1) 1 (i + 1) s) (Off i))
-    (cond (ltb left ((o - v - 1) * w)) (Off i) (in_run v (left - (o - v - 1) * w) (cond (leb w 2097152) (w * base v) w) (i + 1) s))
+    (cond (leb 1 left) (in_run v (left - 1) 1 (i + 1) s) (Err i))
+    (cond (ltb left ((o - v - 1) * w)) (Err i) (in_run v (left - (o - v - 1) * w) (cond (leb w 2097152) (w * base v) w) (i + 1) s))
 
 -- where a level has to stand
-unfoldable pub at_run : ℕ → ℕ → ℕ → List ℕ → Scan
+unfoldable pub at_run : ℕ → ℕ → ℕ → List ℕ → Result ⊤ ℕ
 at_run v left i [] = verdict 0 left i
-at_run v left i (o ∷ s) = cond (leb o v) (cond (leb 1 left) (in_run v (left - 1) 1 (i + 1) s) (Off i)) (Off i)
+at_run v left i (o ∷ s) = cond (leb o v) (cond (leb 1 left) (in_run v (left - 1) 1 (i + 1) s) (Err i)) (Err i)
 
 in_run_nil : (v left w i : ℕ) → in_run v left w i [] ≡ verdict 0 left i
 unfolding in_run
@@ -45,7 +44,7 @@ unfolding at_run
 at_run_nil v left i = refl
 
 module _ (v left w i o : ℕ) (s : List ℕ) where
-  in_run_full : o ≤ v → left < 1 → in_run v left w i (o ∷ s) ≡ Off i
+  in_run_full : o ≤ v → left < 1 → in_run v left w i (o ∷ s) ≡ Err i
   unfolding in_run
   in_run_full h g = simp (le-leb o v h, lt-leb 1 left g)
 
@@ -53,7 +52,7 @@ module _ (v left w i o : ℕ) (s : List ℕ) where
   unfolding in_run
   in_run_open h g = simp (le-leb o v h, le-leb 1 left g)
 
-  in_run_past : v < o → left < (o - v - 1) * w → in_run v left w i (o ∷ s) ≡ Off i
+  in_run_past : v < o → left < (o - v - 1) * w → in_run v left w i (o ∷ s) ≡ Err i
   unfolding in_run
   in_run_past h g = simp (lt-leb o v h, lt-ltb left ((o - v - 1) * w) g)
 
@@ -61,7 +60,7 @@ module _ (v left w i o : ℕ) (s : List ℕ) where
   unfolding in_run
   in_run_digit h g = simp (lt-leb o v h, le-ltb left ((o - v - 1) * w) g)
 
-  at_run_above : v < o → at_run v left i (o ∷ s) ≡ Off i
+  at_run_above : v < o → at_run v left i (o ∷ s) ≡ Err i
   unfolding at_run
   at_run_above h = simp (lt-leb o v h)
 
@@ -69,8 +68,8 @@ module _ (v left w i o : ℕ) (s : List ℕ) where
   unfolding at_run in_run
   at_run_level h = simp (le-leb o v h)
 
-over : (x left i j : ℕ) → left < x → i ≡ j → Off i ≡ verdict x left j
-over x left i j h e = simp (ne_eqb x left (omega arith)) (ap (λ (k : ℕ). Off k) e)
+over : (x left i j : ℕ) → left < x → i ≡ j → Err i ≡ verdict x left j
+over x left i j h e = simp (ne_eqb x left (omega arith)) (ap (λ (k : ℕ). Err k) e)
 
 -- d of the bins taken, as many are wanted less
 pub taken : (x d y left i j : ℕ) → d ≤ left → y ≡ d + x → i ≡ j → verdict x (left - d) i ≡ verdict y left j
@@ -80,7 +79,7 @@ taken x d y left i j h e p =
     (λ g. other (omega arith) (omega arith))
   where
     other : (x ≡ left - d → ⊥) → (y ≡ left → ⊥) → verdict x (left - d) i ≡ verdict y left j
-    other n m = simp (ne_eqb x (left - d) n, ne_eqb y left m) (ap (λ (k : ℕ). Off k) p)
+    other n m = simp (ne_eqb x (left - d) n, ne_eqb y left m) (ap (λ (k : ℕ). Err k) p)
 
 module _ (v : ℕ) (low : v ≤ 253) where
   in_run_right : (s : List ℕ) (left w W i : ℕ) → left ≤ 2097152 → Weighs 2097152 w W → in_run v left w i s ≡ verdict (rest v W s) left (i + reach v W left s)
@@ -113,42 +112,42 @@ module _ (v : ℕ) (low : v ≤ 253) where
 
   -- from the first octet on, the pass answers what the octets give, and where not
   pub at_run_right : (n : ℕ) (s : List ℕ) → n ≤ 2097152 → at_run v n 0 s ≡ scanned v n s
-  at_run_right n [] few = at_run_nil v n 0 ∙ (λ k. cond (sym (gives_nil v n) k) Exact (Off (let same : 0 ≡ fault_at v n [] = omega (arith, fault_inside v n []) in same k)))
+  at_run_right n [] few = at_run_nil v n 0 ∙ (λ k. cond (sym (gives_nil v n) k) (Ok tt) (Err (let same : 0 ≡ fault_at v n [] = omega (arith, fault_inside v n []) in same k)))
   at_run_right n (o ∷ s) few =
       by_order o v
       (λ h.
       let opened = le-leb o v h in
       at_run_level v n 1 0 o s h
       ∙ in_run_right (o ∷ s) n 1 1 0 few (weighs_same 2097152 1)
-      ∙ (λ k. cond (eqb (sym (rest_bins v (o ∷ s) opened) k) n) Exact (Off (let same : 0 + reach v 1 n (o ∷ s) ≡ fault_at v n (o ∷ s) = omega (arith, fault_reach v n (o ∷ s) opened) in same k)))
-      ∙ ap (λ (b : Bool). cond b Exact (Off (fault_at v n (o ∷ s)))) (sym (gives_level v n o s h)))
-      (λ h. at_run_above v n 1 0 o s h ∙ (λ k. cond (sym (gives_above v n o s h) k) Exact (Off (sym (fault_above v n (o ∷ s) (lt-leb o v h)) k))))
+      ∙ (λ k. cond (eqb (sym (rest_bins v (o ∷ s) opened) k) n) (Ok tt) (Err (let same : 0 + reach v 1 n (o ∷ s) ≡ fault_at v n (o ∷ s) = omega (arith, fault_reach v n (o ∷ s) opened) in same k)))
+      ∙ ap (λ (b : Bool). cond b (Ok tt) (Err (fault_at v n (o ∷ s)))) (sym (gives_level v n o s h)))
+      (λ h. at_run_above v n 1 0 o s h ∙ (λ k. cond (sym (gives_above v n o s h) k) (Ok tt) (Err (sym (fault_above v n (o ∷ s) (lt-leb o v h)) k))))
 
 -- no octets give no bins
 pub none_given : (v n : ℕ) (s : List ℕ) → length s ≡ 0 → scanned v n s ≡ verdict 0 n 0
 none_given v n s h =
-    (λ k. cond (ap (λ (l : List ℕ). gives v n l) (sym (take_all 0 s (omega arith))) k) Exact (Off (let none : fault_at v n s ≡ 0 = omega (arith, fault_inside v n s) in none k)))
-    ∙ ap (λ (b : Bool). cond b Exact (Off 0)) (gives_nil v n)
+    (λ k. cond (ap (λ (l : List ℕ). gives v n l) (sym (take_all 0 s (omega arith))) k) (Ok tt) (Err (let none : fault_at v n s ≡ 0 = omega (arith, fault_inside v n s) in none k)))
+    ∙ ap (λ (b : Bool). cond b (Ok tt) (Err 0)) (gives_nil v n)
 
-pub all_read : (left i : ℕ) → left ≡ 0 → verdict 0 left i ≡ Exact
+pub all_read : (left i : ℕ) → left ≡ 0 → verdict 0 left i ≡ (Ok tt)
 all_read left i e = simp (eq-eqb 0 left (sym e))
 
-pub too_few : (left i : ℕ) → (left ≡ 0 → ⊥) → verdict 0 left i ≡ Off i
+pub too_few : (left i : ℕ) → (left ≡ 0 → ⊥) → verdict 0 left i ≡ Err i
 too_few left i e = simp (ne_eqb 0 left (λ h. e (sym h)))
 
 -- ---- the pass along the octets, o the next one, at the place i: X is the answer for the whole
-ended : (v left w : ℕ) (octets : List ℕ) (i : ℕ) (X : Scan) → length octets ≤ i → in_run v left w i (drop i octets) ≡ X → X ≡ verdict 0 left i
+ended : (v left w : ℕ) (octets : List ℕ) (i : ℕ) (X : Result ⊤ ℕ) → length octets ≤ i → in_run v left w i (drop i octets) ≡ X → X ≡ verdict 0 left i
 ended v left w octets i X h e = sym (rw (drop_of_length-le octets h) at e) ∙ in_run_nil v left w i
 
 -- where a run has to open
-module _ (v left : ℕ) (octets : List ℕ) (i o : ℕ) (X : Scan) (inside : i < length octets) (is : o ≡ get_or octets i 0) where
+module _ (v left : ℕ) (octets : List ℕ) (i o : ℕ) (X : Result ⊤ ℕ) (inside : i < length octets) (is : o ≡ get_or octets i 0) where
   next_octet : drop i octets ≡ o ∷ drop (i + 1) octets
   next_octet = drop_here octets i inside ∙ ap (λ (x : ℕ). x ∷ drop (i + 1) octets) (sym is)
 
-  pub above_fails : v < o → at_run v left i (drop i octets) ≡ X → X ≡ Off i
+  pub above_fails : v < o → at_run v left i (drop i octets) ≡ X → X ≡ Err i
   above_fails high e = sym (rw next_octet at e) ∙ at_run_above v left 1 i o _ high
 
-  pub full_fails : o ≤ v → left < 1 → at_run v left i (drop i octets) ≡ X → X ≡ Off i
+  pub full_fails : o ≤ v → left < 1 → at_run v left i (drop i octets) ≡ X → X ≡ Err i
   full_fails low full e = sym (rw next_octet at e) ∙ at_run_level v left 1 i o _ low ∙ in_run_full v left 1 i o _ low full
 
   pub level_step : o ≤ v → 1 ≤ left → at_run v left i (drop i octets) ≡ X → in_run v (left - 1) 1 (i + 1) (drop (i + 1) octets) ≡ X
@@ -158,14 +157,14 @@ module _ (v left : ℕ) (octets : List ℕ) (i o : ℕ) (X : Scan) (inside : i <
   level_last low more end e = ended v (left - 1) 1 octets (i + 1) X end (level_step low more e)
 
 -- in a run
-module _ (v left w : ℕ) (octets : List ℕ) (i o : ℕ) (X : Scan) (inside : i < length octets) (is : o ≡ get_or octets i 0) where
+module _ (v left w : ℕ) (octets : List ℕ) (i o : ℕ) (X : Result ⊤ ℕ) (inside : i < length octets) (is : o ≡ get_or octets i 0) where
   here : drop i octets ≡ o ∷ drop (i + 1) octets
   here = next_octet v left octets i o X inside is
 
   pub digits_level : o ≤ v → in_run v left w i (drop i octets) ≡ X → at_run v left i (drop i octets) ≡ X
   digits_level low e = rw here (at_run_level v left w i o _ low ∙ (rw here at e))
 
-  pub past_fails : v < o → left < (o - v - 1) * w → in_run v left w i (drop i octets) ≡ X → X ≡ Off i
+  pub past_fails : v < o → left < (o - v - 1) * w → in_run v left w i (drop i octets) ≡ X → X ≡ Err i
   past_fails high past e = sym (rw here at e) ∙ in_run_past v left w i o _ high past
 
   pub digit_step : v < o → (o - v - 1) * w ≤ left → in_run v left w i (drop i octets) ≡ X → in_run v (left - (o - v - 1) * w) (cond (leb w 2097152) (w * base v) w) (i + 1) (drop (i + 1) octets) ≡ X
@@ -175,10 +174,10 @@ module _ (v left w : ℕ) (octets : List ℕ) (i o : ℕ) (X : Scan) (inside : i
   digit_last high within end e = ended v (left - (o - v - 1) * w) (cond (leb w 2097152) (w * base v) w) octets (i + 1) X end (digit_step high within e)
 
 -- ---- what a scan tells
-pub told : (b : Bool) (i : ℕ) → Exact ≡ cond b Exact (Off i) → b ≡ true
+pub told : (b : Bool) (i : ℕ) → ◌≡◌ {A = Result ⊤ ℕ} (Ok tt) (cond b (Ok tt) (Err i)) → b ≡ true
 told true i e = refl
 told false i e = absurd (let z : ◌≡◌ {A = ℕ} 0 1 = cc e in omega arith)
 
-pub missed : (b : Bool) (i j : ℕ) → Off j ≡ cond b Exact (Off i) → (b ≡ false) × (j ≡ i)
+pub missed : (b : Bool) (i j : ℕ) → ◌≡◌ {A = Result ⊤ ℕ} (Err j) (cond b (Ok tt) (Err i)) → (b ≡ false) × (j ≡ i)
 missed false i j e = (refl, cc e)
 missed true i j e = absurd (let z : ◌≡◌ {A = ℕ} 0 1 = cc e in omega arith)

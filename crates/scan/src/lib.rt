@@ -5,25 +5,20 @@
 ghost use Rattle.std.specs.Prelude.{◌≡◌, ◌≤◌, length, drop};
 ghost use Rattle.scan.specs.Inner.{scanned, moved};
 
-// Whether octets give exactly the bins wanted; if not, the offset of the octet at fault, which is their length where there are too few.
-#[derive(Clone, Copy)]
-pub enum Scan {
-    Exact,
-    Off(usize),
-}
+// A scan answers whether octets give exactly the bins wanted; if not, the offset of the octet at fault, which is their length where there are too few.
 
 // Run by run, digits inside: an octet that opens no run, or adds more bins than are left, leaves it at once and is the one at fault.
 // The weight grows no more once it is over the bins of the largest cut: a digit other than zero then adds more than are left, and a tail of
 // zero digits cannot overflow it.
-pub fn by_runs(octets: &[u8], v: u8, n: usize) -> Scan
+pub fn by_runs(octets: &[u8], v: u8, n: usize) -> Result<(), usize>
     requires { (v ≤ 253) × (n ≤ 2097152) }
     ensures { result ≡ scanned v n octets.now }
 {
     if octets.len() == 0 {
         if n == 0 {
-            return Scan::Exact;
+            return Ok(());
         }
-        return Scan::Off(0);
+        return Err(0);
     }
     let base = 255 - v as usize; // B
     let mut i: usize = 0;
@@ -57,12 +52,12 @@ pub fn by_runs(octets: &[u8], v: u8, n: usize) -> Scan
         }
     }
     if i < octets.len() {
-        return Scan::Off(i);
+        return Err(i);
     }
     if left == 0 { // no bin is owed
-        return Scan::Exact;
+        return Ok(());
     }
-    Scan::Off(i)
+    Err(i)
 }
 
 // How far whole blocks of data go, and the bins still to come from there on.
@@ -98,17 +93,13 @@ fn by_blocks(octets: &[u8], v: u8, n: usize) -> Far
 }
 
 // Block by block; the loop over runs then decides: on a last part that is no block, and where a block does not fit, whose octet at fault it finds.
-pub fn scan_runs(octets: &[u8], v: u8, n: usize) -> Scan
+pub fn scan_runs(octets: &[u8], v: u8, n: usize) -> Result<(), usize>
     requires { (v ≤ 253) × (n ≤ 2097152) }
     ensures { result ≡ scanned v n octets.now }
 {
     let far = by_blocks(octets, v, n);
-    let at = far.at;
-    match by_runs(&octets[at..], v, far.left) {
-        Scan::Exact => Scan::Exact,
-        Scan::Off(i) => {
-            let place = at + i;
-            Scan::Off(place)
-        }
+    match by_runs(&octets[far.at..], v, far.left) {
+        Ok(()) => Ok(()),
+        Err(i) => Err(far.at + i),
     }
 }

@@ -13,30 +13,30 @@ use Rattle.sections.specs.Refused.{AllHold, FirstFails, this, later}
 use Rattle.sections.specs.declared.Refusal.{Refusal}
 use Rattle.sections.specs.Refusal.{refuse}
 use Rattle.sections.specs.declared.Why.TheVariants.{Frame, CutCount}
-use Rattle.sections.specs.declared.Judged.TheVariants.{Accepted, Refused}
 use Rattle.sections.proofs.Framed.{Framed, framed_is}
+use Rattle.std.specs.Prelude.{Err, Ok}
 
-pub fine_all : (cs : List Check) → first_fault cs ≡ Accepted → AllHold cs
+pub fine_all : (cs : List Check) → first_fault cs ≡ (Ok tt) → AllHold cs
 fine_all [] h = tt
 fine_all (check r true ∷ cs) h = (refl, fine_all cs h)
 fine_all (check r false ∷ cs) h = let z : ◌≡◌ {A = ℕ} 0 1 = cc in absurd (omega arith)
 
-pub all_fine : (cs : List Check) → AllHold cs → first_fault cs ≡ Accepted
+pub all_fine : (cs : List Check) → AllHold cs → first_fault cs ≡ (Ok tt)
 all_fine [] h = refl
 all_fine (check r ok ∷ cs) h = rw h.0 (all_fine cs h.1)
 
-pub wrong_first : (cs : List Check) (r : Refusal) → first_fault cs ≡ Refused r → FirstFails r cs
+pub wrong_first : (cs : List Check) (r : Refusal) → first_fault cs ≡ Err r → FirstFails r cs
 wrong_first [] r h = let z : ◌≡◌ {A = ℕ} 0 1 = cc in absurd (omega arith)
 wrong_first (check q true ∷ cs) r h = later refl (wrong_first cs r h)
 wrong_first (check q false ∷ cs) r h =
     let e : q ≡ r = cc in
     subst (λ (x : Refusal). FirstFails x (check q false ∷ cs)) e (this refl)
 
-wrong_at : (r : Refusal) (cs : List Check) → FirstFails r cs → first_fault cs ≡ Refused r
+wrong_at : (r : Refusal) (cs : List Check) → FirstFails r cs → first_fault cs ≡ Err r
 wrong_at r cs (this e) = rw e
 wrong_at r cs (later {cs = ds} e f) = rw e (wrong_at r ds f)
 
-pub first_wrong : (cs : List Check) (r : Refusal) → FirstFails r cs → first_fault cs ≡ Refused r
+pub first_wrong : (cs : List Check) (r : Refusal) → FirstFails r cs → first_fault cs ≡ Err r
 first_wrong cs r f = wrong_at r cs f
 
 -- what holds where the checks of a section hold
@@ -64,5 +64,5 @@ module _ (own : FormatChecks) (s : List ℕ) (end : ℕ) (x : Context) (at : ℕ
   pub cleaned : (at ≡ end → ⊥) → Clean own s end x at → AllHold (checks_at own s end x at)
   cleaned ne k = rw (checks_here ne) (k.frame, (k.roomy, k.its_own))
 
-  pub fine_framed : (at ≡ end → ⊥) → first_fault (checks_at own s end x at) ≡ Accepted → Framed s end x at
+  pub fine_framed : (at ≡ end → ⊥) → first_fault (checks_at own s end x at) ≡ (Ok tt) → Framed s end x at
   fine_framed ne h = framed_is s end x at (clean ne (fine_all (checks_at own s end x at) h)).frame

@@ -12,3 +12,4 @@ pub mod Each
 pub mod Inside
 pub mod Held
 pub mod Numbers
+pub mod Checking

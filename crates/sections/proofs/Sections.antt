@@ -17,37 +17,36 @@ use Rattle.sections.specs.declared.Cut.{Cut}
 use Rattle.sections.specs.declared.Refusal.{Refusal}
 use Rattle.sections.specs.Refusal.{refuse}
 use Rattle.sections.specs.declared.Why.TheVariants.{Frame}
-use Rattle.sections.specs.declared.Judged.{Judged}
-use Rattle.sections.specs.declared.Judged.TheVariants.{Accepted, Refused}
 use Rattle.sections.proofs.Framed.{Framed}
 use Rattle.sections.proofs.Faults.{fine_all, all_fine, wrong_first, first_wrong, fine_framed}
+use Rattle.std.specs.Prelude.{Err, Ok, Result, ⊤}
 
 -- what the checks at a place come to
-abbrev pub judged_at : FormatChecks → List ℕ → ℕ → List Seen → ℕ → Judged
+abbrev pub judged_at : FormatChecks → List ℕ → ℕ → List Seen → ℕ → Result ⊤ Refusal
 judged_at own s end seen at = first_fault (checks_at own s end (context_of seen at) at)
 
 module _ (own : FormatChecks) (f : ℕ) (s : List ℕ) (end : ℕ) (seen : List Seen) (at : ℕ) where
-  pub sections_refused : (r : Refusal) → judged_at own s end seen at ≡ Refused r → sections own (suc f) s end seen at ≡ refused r
+  pub sections_refused : (r : Refusal) → judged_at own s end seen at ≡ Err r → sections own (suc f) s end seen at ≡ refused r
   unfolding sections
   sections_refused r h =
       ap
-      (λ (j : Judged). if_accepted j (cond (eqb at end) (accepted (cuts_of seen)) (sections own f s end (seen_at s at ∷ seen) (at + length_at s at))))
+      (λ (j : Result ⊤ Refusal). if_accepted j (cond (eqb at end) (accepted (cuts_of seen)) (sections own f s end (seen_at s at ∷ seen) (at + length_at s at))))
       h
 
-  pub sections_done : judged_at own s end seen at ≡ Accepted → at ≡ end → sections own (suc f) s end seen at ≡ accepted (cuts_of seen)
+  pub sections_done : judged_at own s end seen at ≡ (Ok tt) → at ≡ end → sections own (suc f) s end seen at ≡ accepted (cuts_of seen)
   unfolding sections
   sections_done h e =
       ap
-      (λ (j : Judged). if_accepted j (cond (eqb at end) (accepted (cuts_of seen)) (sections own f s end (seen_at s at ∷ seen) (at + length_at s at))))
+      (λ (j : Result ⊤ Refusal). if_accepted j (cond (eqb at end) (accepted (cuts_of seen)) (sections own f s end (seen_at s at ∷ seen) (at + length_at s at))))
       h
       ∙ rw (eq-eqb at end e)
 
-  pub sections_next : judged_at own s end seen at ≡ Accepted → (at ≡ end → ⊥)
+  pub sections_next : judged_at own s end seen at ≡ (Ok tt) → (at ≡ end → ⊥)
       → sections own (suc f) s end seen at ≡ sections own f s end (seen_at s at ∷ seen) (at + length_at s at)
   unfolding sections
   sections_next h ne =
       ap
-      (λ (j : Judged). if_accepted j (cond (eqb at end) (accepted (cuts_of seen)) (sections own f s end (seen_at s at ∷ seen) (at + length_at s at))))
+      (λ (j : Result ⊤ Refusal). if_accepted j (cond (eqb at end) (accepted (cuts_of seen)) (sections own f s end (seen_at s at ∷ seen) (at + length_at s at))))
       h
       ∙ rw (ne_eqb at end ne)
 
@@ -89,18 +88,18 @@ refused_same q r h = cc
 
 through_by : (own : FormatChecks) (f : ℕ) (s : List ℕ) (end : ℕ) (seen : List Seen) (at : ℕ) (cs : List Cut)
     → (sections own f s end (seen_at s at ∷ seen) (at + length_at s at) ≡ accepted cs → Through own s end (seen_at s at ∷ seen) (at + length_at s at) cs)
-    → (j : Judged) (t : Bool) → judged_at own s end seen at ≡ j → eqb at end ≡ t
+    → (j : Result ⊤ Refusal) (t : Bool) → judged_at own s end seen at ≡ j → eqb at end ≡ t
     → sections own (suc f) s end seen at ≡ accepted cs → Through own s end seen at cs
-through_by own f s end seen at cs go (Refused r) t e p h =
+through_by own f s end seen at cs go (Err r) t e p h =
     absurd (refused_not_accepted r cs (sym (sections_refused own f s end seen at r e) ∙ h))
-through_by own f s end seen at cs go Accepted true e p h =
+through_by own f s end seen at cs go (Ok tt) true e p h =
     let there : at ≡ end = eqb-true _ _ p in
     record {
       all = seen;
       rest = stop there (fine_all (checks_at own s end (context_of seen at) at) e);
       cuts = sym (accepted_same (cuts_of seen) cs (sym (sections_done own f s end seen at e there) ∙ h));
     }
-through_by own f s end seen at cs go Accepted false e p h =
+through_by own f s end seen at cs go (Ok tt) false e p h =
     let ne : at ≡ end → ⊥ = eqb-false _ _ p in
     let t = go (sym (sections_next own f s end seen at e ne) ∙ h) in
     record { all = t.all; rest = step ne (fine_all (checks_at own s end (context_of seen at) at) e) t.rest; cuts = t.cuts }
@@ -130,19 +129,19 @@ accepts own s end seen at all (suc f) (step ne h r) le in-s few =
 stopped_by : (own : FormatChecks) (f : ℕ) (s : List ℕ) (end : ℕ) (seen : List Seen) (at : ℕ) (r : Refusal)
     → (Framed s end (context_of seen at) at → sections own f s end (seen_at s at ∷ seen) (at + length_at s at) ≡ refused r
     → Stopped own s end (seen_at s at ∷ seen) (at + length_at s at) r)
-    → (j : Judged) (t : Bool) → judged_at own s end seen at ≡ j → eqb at end ≡ t
+    → (j : Result ⊤ Refusal) (t : Bool) → judged_at own s end seen at ≡ j → eqb at end ≡ t
     → sections own (suc f) s end seen at ≡ refused r → Stopped own s end seen at r
-stopped_by own f s end seen at r go (Refused q) t e p h =
+stopped_by own f s end seen at r go (Err q) t e p h =
     let same : q ≡ r = refused_same q r (sym (sections_refused own f s end seen at q e) ∙ h) in
     record {
       before = seen;
       place = at;
       passed = λ x. x;
-      fails = wrong_first (checks_at own s end (context_of seen at) at) r (e ∙ ap Refused same);
+      fails = wrong_first (checks_at own s end (context_of seen at) at) r (e ∙ ap Err same);
     }
-stopped_by own f s end seen at r go Accepted true e p h =
+stopped_by own f s end seen at r go (Ok tt) true e p h =
     absurd (refused_not_accepted r (cuts_of seen) (sym h ∙ sections_done own f s end seen at e (eqb-true _ _ p)))
-stopped_by own f s end seen at r go Accepted false e p h =
+stopped_by own f s end seen at r go (Ok tt) false e p h =
     let ne : at ≡ end → ⊥ = eqb-false _ _ p in
     let st = go (fine_framed own s end (context_of seen at) at ne e) (sym (sections_next own f s end seen at e ne) ∙ h) in
     record {
@@ -186,7 +185,7 @@ reached own s end seen at h in-s (then {seen = old} {at = a} p ne ok) =
     reached_on own s end old a r.fuel ne ok r.inside in-s r.enough r.same
 
 refuses_by : (own : FormatChecks) (s : List ℕ) (end : ℕ) (seen : List Seen) (at : ℕ) (r : Refusal) (f : ℕ) → at ≤ end → end ≤ length s → length s < at + f
-    → judged_at own s end seen at ≡ Refused r → sections own f s end seen at ≡ refused r
+    → judged_at own s end seen at ≡ Err r → sections own f s end seen at ≡ refused r
 refuses_by own s end seen at r zero le in-s few h = absurd (omega arith)
 refuses_by own s end seen at r (suc f) le in-s few h = sections_refused own f s end seen at r h
 

@@ -1,5 +1,5 @@
 -- The verdict on any octets by a format's own checks, to compute: FORMAT.md, "Order of checks": 1, 2, then section by section.
-use Rattle.std.specs.Prelude.{ℕ, zero, suc, ◌+◌, ◌-◌, List, [], ◌∷◌, Bool, cond, ◌&&◌, length, leb, eqb}
+use Rattle.std.specs.Prelude.{ℕ, zero, suc, ◌+◌, ◌-◌, List, [], ◌∷◌, Bool, cond, ◌&&◌, length, leb, eqb, Err, Ok, Result, ⊤}
 use Rattle.rules.specs.Rules.{meets_all, rules0}
 use Rattle.rules.specs.Fields.{length_at}
 use Rattle.sections.specs.Checks.{Check, check, FormatChecks, checks_at}
@@ -8,8 +8,6 @@ use Rattle.sections.specs.declared.Cut.{Cut}
 use Rattle.sections.specs.declared.Refusal.{Refusal}
 use Rattle.sections.specs.Refusal.{refuse}
 use Rattle.sections.specs.declared.Why.TheVariants.{FileSize, Section0, Frame}
-use Rattle.sections.specs.declared.Judged.{Judged}
-use Rattle.sections.specs.declared.Judged.TheVariants.{Accepted, Refused}
 
 -- accepted, with the cuts, by the places of their sections; or refused
 pub data Verdict : Type 0 where
@@ -17,13 +15,13 @@ pub data Verdict : Type 0 where
   refused : Refusal → Verdict
 
 -- the first check that fails
-abbrev pub first_fault : List Check → Judged
-first_fault [] = Accepted
-first_fault (check r ok ∷ cs) = cond ok (first_fault cs) (Refused r)
+abbrev pub first_fault : List Check → Result ⊤ Refusal
+first_fault [] = Ok tt
+first_fault (check r ok ∷ cs) = cond ok (first_fault cs) (Err r)
 
-abbrev pub if_accepted : Judged → Verdict → Verdict
-if_accepted Accepted v = v
-if_accepted (Refused r) v = refused r
+abbrev pub if_accepted : Result ⊤ Refusal → Verdict → Verdict
+if_accepted (Ok tt) v = v
+if_accepted (Err r) v = refused r
 
 -- section after section up to `end`, the place of the last four octets, from a place on. A file has fewer sections than octets: the first argument
 -- is never used up

@@ -14,7 +14,7 @@ ghost use Rattle.sections.specs.Checks.{follows, framed, room_for_cut, closes, c
 ghost use Rattle.sections.specs.Verdict.{first_fault};
 
 // Why a call on a file is refused: one case for each number of specs/Refusal.antt. (12 is of the run calls alone: section 5 holds V.)
-#[derive(Clone, Copy)]
+#[derive(Clone, Copy, Debug, PartialEq, Eq)]
 pub enum Why {
     // 1: the lent file is under 20 or over 8,388,608 octets
     FileSize,
@@ -45,14 +45,14 @@ pub enum Why {
 }
 
 // A refusal: why, and where: the start of the section concerned, for 8 the octet at fault, 0 where no section is concerned.
-#[derive(Clone, Copy)]
+#[derive(Clone, Copy, Debug, PartialEq, Eq)]
 pub struct Refusal {
     pub why: Why,
     pub place: usize,
 }
 
 // The places of a cut's sections.
-#[derive(Clone, Copy)]
+#[derive(Clone, Copy, Debug, PartialEq, Eq)]
 pub struct Cut {
     pub section3: usize,
     pub section4: usize,
@@ -61,7 +61,7 @@ pub struct Cut {
 }
 
 // When a file was observed, as its section 1 says.
-#[derive(Clone, Copy)]
+#[derive(Clone, Copy, Debug, PartialEq, Eq)]
 pub struct Time {
     pub year: u16,
     pub month: u8,
@@ -72,7 +72,7 @@ pub struct Time {
 }
 
 // What every section 3 says, each number as read.
-#[derive(Clone, Copy)]
+#[derive(Clone, Copy, Debug, PartialEq, Eq)]
 pub struct Grid {
     pub nb: u32,
     pub nr: u32,
@@ -82,15 +82,8 @@ pub struct Grid {
     pub dstart: u32,
 }
 
-// What the checks of a section come to.
-#[derive(Clone, Copy)]
-pub enum Judged {
-    Accepted,
-    Refused(Refusal),
-}
-
 // What the checks of a section ask of the sections before it.
-#[derive(Clone, Copy)]
+#[derive(Clone, Copy, Debug, PartialEq, Eq)]
 pub struct Context {
     // the number of the section before
     pub previous: u8,
@@ -104,36 +97,27 @@ pub struct Context {
     pub section5: usize,
 }
 
-pub fn number_of(why: Why) -> u32
-    ensures { result ≡ number_of why }
-{
-    match why {
-        Why::FileSize => 1,
-        Why::Section0 => 2,
-        Why::Frame => 3,
-        Why::SectionLength => 4,
-        Why::Field => 5,
-        Why::Points => 6,
-        Why::Table => 7,
-        Why::Data => 8,
-        Why::CutCount => 9,
-        Why::Argument => 10,
-        Why::Room => 11,
-        Why::Record => 13,
-        Why::Unread => 14,
+// The number of each in FORMAT.md, "Refusals".
+impl From<Why> for u32 {
+    ghost from_gives = { λ why number. number ≡ number_of why };
+
+    fn from(why: Why) -> u32 {
+        match why {
+            Why::FileSize => 1,
+            Why::Section0 => 2,
+            Why::Frame => 3,
+            Why::SectionLength => 4,
+            Why::Field => 5,
+            Why::Points => 6,
+            Why::Table => 7,
+            Why::Data => 8,
+            Why::CutCount => 9,
+            Why::Argument => 10,
+            Why::Room => 11,
+            Why::Record => 13,
+            Why::Unread => 14,
+        }
     }
-}
-
-pub fn place(x: u32) -> usize
-    ensures { result ≡ x }
-{
-    x as usize
-}
-
-pub fn pick(b: bool, x: usize, y: usize) -> usize
-    ensures { result ≡ cond b x y }
-{
-    if b { x } else { y }
 }
 
 pub fn refuse(why: Why, place: usize) -> Refusal
@@ -142,23 +126,15 @@ pub fn refuse(why: Why, place: usize) -> Refusal
     Refusal { why, place }
 }
 
-pub fn refused(why: Why, place: usize) -> Judged
-    ensures { result ≡ Judged.Refused (refuse why place) }
+// One check: it holds, or the refusal. Each of a section's checks is followed by `?`, so that the first that fails is the answer.
+pub fn check(ok: bool, why: Why, place: usize) -> Result<(), Refusal>
+    ensures { result ≡ cond ok (Ok tt) (Err (refuse why place)) }
 {
-    Judged::Refused(refuse(why, place))
-}
-
-// The first check that fails: this one, or what the later ones came to.
-pub fn check(ok: bool, why: Why, place: usize, later: Judged) -> Judged
-    ensures { result ≡ cond ok later (Judged.Refused (refuse why place)) }
-{
-    if ok { later } else { refused(why, place) }
-}
-
-pub fn accepted() -> Judged
-    ensures { result ≡ Judged.Accepted }
-{
-    Judged::Accepted
+    if ok {
+        Ok(())
+    } else {
+        Err(refuse(why, place))
+    }
 }
 
 // The place past the section at a place. Past the file a length reads as 0.
@@ -166,7 +142,7 @@ pub fn end_at(s: &[u8], at: usize) -> usize
     ensures { result ≡ at + length_at s.now at }
 {
     if at < s.len() {
-        at + place(rules::length_at(s, at))
+        at + rules::length_at(s, at) as usize
     } else {
         at
     }
@@ -197,13 +173,13 @@ pub fn time_of(s: &[u8]) -> Time
 pub fn bins_in(s: &[u8], c: Cut) -> usize
     ensures { result ≡ bins_in s.now c }
 {
-    place(rules::bins_at(s, c.section3))
+    rules::bins_at(s, c.section3) as usize
 }
 
 pub fn rays_in(s: &[u8], c: Cut) -> usize
     ensures { result ≡ rays_in s.now c }
 {
-    place(rules::rays_at(s, c.section3))
+    rules::rays_at(s, c.section3) as usize
 }
 
 pub fn grid_at(s: &[u8], at: usize) -> Grid
@@ -256,9 +232,8 @@ pub fn is_framed(s: &[u8], end: usize, x: Context, at: usize) -> bool
     ensures { result ≡ framed s.now end x at }
 {
     if ends_by(at, 5, end) {
-        let to = at + 5;
-        let head = &s[at..to];
-        let len = place(rules::length_at(head, 0));
+        let head = &s[at..at + 5];
+        let len = rules::length_at(head, 0) as usize;
         let n = rules::number_at(head, 0);
         return (5 <= len) & (ends_by(at, len, end) & may_follow(x.previous, n));
     }
@@ -281,26 +256,18 @@ pub fn is_closed(s: &[u8], x: Context, at: usize) -> bool
 
 // The sections that every format has: the length first, then the fields, read in the part of the file that is the section.
 
-pub fn judge1(s: &[u8], at: usize) -> Judged
+pub fn judge1(s: &[u8], at: usize) -> Result<(), Refusal>
     requires { at + length_at s.now at ≤ length s.now }
     ensures { result ≡ first_fault (checks1 s.now at) }
 {
-    if rules::length_at(s, at) != 21 {
-        return refused(Why::SectionLength, at);
-    }
-    let to = at + 21;
-    let fields1 = rules::fields1(&s[at..to], 0);
-    check(fields1, Why::Field, at, accepted())
+    check(rules::length_at(s, at) == 21, Why::SectionLength, at)?;
+    check(rules::fields1(&s[at..at + 21], 0), Why::Field, at)
 }
 
-pub fn judge6(s: &[u8], at: usize) -> Judged
+pub fn judge6(s: &[u8], at: usize) -> Result<(), Refusal>
     requires { at + length_at s.now at ≤ length s.now }
     ensures { result ≡ first_fault (checks6 s.now at) }
 {
-    if rules::length_at(s, at) != 6 {
-        return refused(Why::SectionLength, at);
-    }
-    let to = at + 6;
-    let fields6 = rules::fields6(&s[at..to], 0);
-    check(fields6, Why::Field, at, accepted())
+    check(rules::length_at(s, at) == 6, Why::SectionLength, at)?;
+    check(rules::fields6(&s[at..at + 6], 0), Why::Field, at)
 }

@@ -13,7 +13,6 @@ ghost use Rattle.stretches.specs.Inner.{must_list};
 ghost use Rattle.stretches.specs.Inner.{CutData, kind_by_table};
 ghost use Rattle.stretches.specs.Call.{kind_by_threshold, stretches_from, answer_of, out_of, right_t, right_point};
 
-use runs::Step;
 use values::Product;
 
 // How many words an entry takes.
@@ -78,17 +77,9 @@ fn list_by(
     let mut first: usize = 0;
     let mut held: u32 = 0;
     let mut count: usize = 0;
-    loop {
-        let step = runs::known_run(octets, v, at, nr - ray);
-        let Step::Run { level, len, next } = step else {
-            return Listing {
-                count,
-                ray: nr,
-                bin: 0,
-            };
-        };
-        at = next;
-        let kind = kinds[level as usize];
+    while let Some(run) = runs::known_run(octets, v, at, nr - ray) {
+        at = run.next;
+        let kind = kinds[run.level as usize];
         let other = kind != held;
         if other {
             if must_list(nb, from, ray, first, bin) {
@@ -105,7 +96,7 @@ fn list_by(
             first = bin;
             held = kind;
         }
-        bin = bin + len;
+        bin = bin + run.len;
         while nb <= bin {
             if must_list(nb, from, ray, first, nb) {
                 if cap <= count {
@@ -122,6 +113,11 @@ fn list_by(
             bin = bin - nb;
             first = 0;
         }
+    }
+    Listing {
+        count,
+        ray: nr,
+        bin: 0,
     }
 }
 

@@ -19,7 +19,6 @@ ghost use Rattle.values.specs.Inner.{pair_right};
 ghost use Rattle.values.specs.Inner.{number_of, numbered_to, InTwoOctets, Bins};
 
 use kinds::Kind;
-use runs::Step;
 
 mod tables;
 
@@ -186,25 +185,18 @@ fn readings_in(
 {
     let mut at: usize = 0;
     let mut bins: usize = 0;
-    loop {
-        match runs::run_upto(octets, v, at, b - bins) {
-            Step::Run { level, len, next } => {
-                let reading = reading_in(product, table, level);
-                let to = bins + len;
-                put_reading(
-                    reading,
-                    runs::excess(bins, a),
-                    runs::excess(to, a),
-                    marks,
-                    values,
-                );
-                bins = to;
-                at = next;
-            }
-            Step::End => {
-                return;
-            }
-        }
+    while let Some(run) = runs::run_upto(octets, v, at, b - bins) {
+        let reading = reading_in(product, table, run.level);
+        let to = bins + run.len;
+        put_reading(
+            reading,
+            runs::excess(bins, a),
+            runs::excess(to, a),
+            marks,
+            values,
+        );
+        bins = to;
+        at = run.next;
     }
 }
 

@@ -20,12 +20,9 @@ use Rattle.sections.specs.Refused.{Passed, first, then}
 use Rattle.walks.specs.declared.State.{State}
 use Rattle.sections.specs.declared.Cut.{Cut}
 use Rattle.sections.specs.declared.Refusal.{Refusal}
-use Rattle.sections.specs.declared.Judged.{Judged}
-use Rattle.sections.specs.declared.Judged.TheVariants as J
-use Rattle.walks.specs.declared.Step.TheVariants.{Next, Done, Refused}
-use Rattle.walks.specs.declared.Walked.TheVariants as W
 use Rattle.sections.proofs.Faults.{fine_all, fine_framed}
 use Rattle.sections.proofs.Sections.{judged_at, sections_refused, sections_done, sections_next, count_cuts}
+use Rattle.std.specs.Prelude.{Err, None, Ok, Option, Result, Some, ⊤}
 
 -- ── the state mirrors the history ──
 
@@ -111,48 +108,48 @@ kept_past st seen n want chosen m k = go (eqb n 7)
 -- ── what a step that goes on says ──
 
 pub record Went (own : FormatChecks) (s : List ℕ) (end : ℕ) (st next : State) : Type 0 where
-  pub fine : first_fault (checks_at own s end (context_in st) st.at) ≡ J.Accepted
+  pub fine : first_fault (checks_at own s end (context_in st) st.at) ≡ (Ok tt)
   pub open_end : st.at ≡ end → ⊥
   pub moved : next ≡ past st (number_at s st.at) (length_at s st.at)
 
-went_by : (own : FormatChecks) (s : List ℕ) (end : ℕ) (st next : State) (j : Judged) (t : Bool) → first_fault (checks_at own s end (context_in st) st.at) ≡ j → eqb st.at end ≡ t
-    → step_from s end st j ≡ Next next → Went own s end st next
-went_by own s end st next J.Accepted true e p h =
-    let g : Done ≡ Next next = rw p at h in
+went_by : (own : FormatChecks) (s : List ℕ) (end : ℕ) (st next : State) (j : Result ⊤ Refusal) (t : Bool) → first_fault (checks_at own s end (context_in st) st.at) ≡ j → eqb st.at end ≡ t
+    → step_from s end st j ≡ Ok (Some next) → Went own s end st next
+went_by own s end st next (Ok tt) true e p h =
+    let g : ◌≡◌ {A = Result (Option State) Refusal} (Ok None) (Ok (Some next)) = rw p at h in
     let z : ◌≡◌ {A = ℕ} 0 1 = cc in absurd (omega arith)
-went_by own s end st next J.Accepted false e p h =
-    let g : Next (past st (number_at s st.at) (length_at s st.at)) ≡ Next next = rw p at h in
+went_by own s end st next (Ok tt) false e p h =
+    let g : ◌≡◌ {A = Result (Option State) Refusal} (Ok (Some (past st (number_at s st.at) (length_at s st.at)))) (Ok (Some next)) = rw p at h in
     record { fine = e; open_end = eqb-false _ _ p; moved = cc g }
-went_by own s end st next (J.Refused r) t e p h = let z : ◌≡◌ {A = ℕ} 0 1 = cc in absurd (omega arith)
+went_by own s end st next (Err r) t e p h = let z : ◌≡◌ {A = ℕ} 0 1 = cc in absurd (omega arith)
 
-pub went : (own : FormatChecks) (s : List ℕ) (end : ℕ) (st next : State) → step_of own s end st ≡ Next next → Went own s end st next
+pub went : (own : FormatChecks) (s : List ℕ) (end : ℕ) (st next : State) → step_of own s end st ≡ Ok (Some next) → Went own s end st next
 unfolding step_of
 went own s end st next h = went_by own s end st next (first_fault (checks_at own s end (context_in st) st.at)) (eqb st.at end) refl refl h
 
 pub record Ended (own : FormatChecks) (s : List ℕ) (end : ℕ) (st : State) : Type 0 where
-  pub fine : first_fault (checks_at own s end (context_in st) st.at) ≡ J.Accepted
+  pub fine : first_fault (checks_at own s end (context_in st) st.at) ≡ (Ok tt)
   pub there : st.at ≡ end
 
-ended_by : (own : FormatChecks) (s : List ℕ) (end : ℕ) (st : State) (j : Judged) (t : Bool) → first_fault (checks_at own s end (context_in st) st.at) ≡ j → eqb st.at end ≡ t
-    → step_from s end st j ≡ Done → Ended own s end st
-ended_by own s end st J.Accepted true e p h = record { fine = e; there = eqb-true _ _ p }
-ended_by own s end st J.Accepted false e p h =
-    let g : Next (past st (number_at s st.at) (length_at s st.at)) ≡ Done = rw p at h in
+ended_by : (own : FormatChecks) (s : List ℕ) (end : ℕ) (st : State) (j : Result ⊤ Refusal) (t : Bool) → first_fault (checks_at own s end (context_in st) st.at) ≡ j → eqb st.at end ≡ t
+    → step_from s end st j ≡ (Ok None) → Ended own s end st
+ended_by own s end st (Ok tt) true e p h = record { fine = e; there = eqb-true _ _ p }
+ended_by own s end st (Ok tt) false e p h =
+    let g : ◌≡◌ {A = Result (Option State) Refusal} (Ok (Some (past st (number_at s st.at) (length_at s st.at)))) (Ok None) = rw p at h in
     let z : ◌≡◌ {A = ℕ} 0 1 = cc in absurd (omega arith)
-ended_by own s end st (J.Refused r) t e p h = let z : ◌≡◌ {A = ℕ} 0 1 = cc in absurd (omega arith)
+ended_by own s end st (Err r) t e p h = let z : ◌≡◌ {A = ℕ} 0 1 = cc in absurd (omega arith)
 
-refused_by : (s : List ℕ) (end : ℕ) (st : State) (r : Refusal) (j : Judged) (t : Bool) → eqb st.at end ≡ t
-    → step_from s end st j ≡ Refused r → j ≡ J.Refused r
-refused_by s end st r J.Accepted true p h =
-    let g : Done ≡ Refused r = rw p at h in
+refused_by : (s : List ℕ) (end : ℕ) (st : State) (r : Refusal) (j : Result ⊤ Refusal) (t : Bool) → eqb st.at end ≡ t
+    → step_from s end st j ≡ Err r → j ≡ Err r
+refused_by s end st r (Ok tt) true p h =
+    let g : ◌≡◌ {A = Result (Option State) Refusal} (Ok None) (Err r) = rw p at h in
     let z : ◌≡◌ {A = ℕ} 0 1 = cc in absurd (omega arith)
-refused_by s end st r J.Accepted false p h =
-    let g : Next (past st (number_at s st.at) (length_at s st.at)) ≡ Refused r = rw p at h in
+refused_by s end st r (Ok tt) false p h =
+    let g : ◌≡◌ {A = Result (Option State) Refusal} (Ok (Some (past st (number_at s st.at) (length_at s st.at)))) (Err r) = rw p at h in
     let z : ◌≡◌ {A = ℕ} 0 1 = cc in absurd (omega arith)
-refused_by s end st r (J.Refused q) t p h = cc h
+refused_by s end st r (Err q) t p h = cc h
 
 -- the checks by the state are those by the history
-same_checks : (own : FormatChecks) (s : List ℕ) (end : ℕ) (st : State) (seen : List Seen) (j : Judged) → Mirrors st seen
+same_checks : (own : FormatChecks) (s : List ℕ) (end : ℕ) (st : State) (seen : List Seen) (j : Result ⊤ Refusal) → Mirrors st seen
     → first_fault (checks_at own s end (context_in st) st.at) ≡ j → judged_at own s end seen st.at ≡ j
 same_checks own s end st seen j m h =
     ap (λ (x : Context). first_fault (checks_at own s end x st.at)) (sym (context_same st seen m)) ∙ h
@@ -189,7 +186,7 @@ unfolding past
 past_previous st n len = refl
 
 module _ (own : FormatChecks) (s : List ℕ) (end want : ℕ) (st : State) (chosen : Cut) (a : Along own s end want st chosen) where
-  go_next : (f : ℕ) → f ≡ a.fuel → first_fault (checks_at own s end (context_in st) st.at) ≡ J.Accepted → (st.at ≡ end → ⊥)
+  go_next : (f : ℕ) → f ≡ a.fuel → first_fault (checks_at own s end (context_in st) st.at) ≡ (Ok tt) → (st.at ≡ end → ⊥)
       → Along own s end want (past st (number_at s st.at) (length_at s st.at)) (chosen_after want st (number_at s st.at) chosen)
   go_next zero e h ne =
       let inside = a.inside in
@@ -205,7 +202,7 @@ module _ (own : FormatChecks) (s : List ℕ) (end want : ℕ) (st : State) (chos
       let at' = past_at st n len in
       let enough = a.enough in
       let later = a.later in
-      let fine = same_checks own s end st a.seen J.Accepted a.mirrors h in
+      let fine = same_checks own s end st a.seen (Ok tt) a.mirrors h in
       let there : sections own a.fuel s end a.seen st.at ≡ sections own f s end (seen_at s st.at ∷ a.seen) (st.at + len) =
       ap (λ (k : ℕ). sections own k s end a.seen st.at) (sym e) ∙ sections_next own f s end a.seen st.at fine ne in
       record {
@@ -231,9 +228,9 @@ module _ (own : FormatChecks) (s : List ℕ) (end want : ℕ) (st : State) (chos
   go_done (suc f) e d =
       a.same
       ∙ ap (λ (k : ℕ). sections own k s end a.seen st.at) (sym e)
-      ∙ sections_done own f s end a.seen st.at (same_checks own s end st a.seen J.Accepted a.mirrors d.fine) d.there
+      ∙ sections_done own f s end a.seen st.at (same_checks own s end st a.seen (Ok tt) a.mirrors d.fine) d.there
 
-  go_refused : (f : ℕ) (r : Refusal) → f ≡ a.fuel → first_fault (checks_at own s end (context_in st) st.at) ≡ J.Refused r
+  go_refused : (f : ℕ) (r : Refusal) → f ≡ a.fuel → first_fault (checks_at own s end (context_in st) st.at) ≡ Err r
       → sections own (length s) s end [] 16 ≡ refused r
   go_refused zero r e d =
       let inside = a.inside in
@@ -243,9 +240,9 @@ module _ (own : FormatChecks) (s : List ℕ) (end want : ℕ) (st : State) (chos
   go_refused (suc f) r e d =
       a.same
       ∙ ap (λ (k : ℕ). sections own k s end a.seen st.at) (sym e)
-      ∙ sections_refused own f s end a.seen st.at r (same_checks own s end st a.seen (J.Refused r) a.mirrors d)
+      ∙ sections_refused own f s end a.seen st.at r (same_checks own s end st a.seen (Err r) a.mirrors d)
 
-  pub along_next : (next : State) → step_of own s end st ≡ Next next → Along own s end want next (chosen_after want st next.previous chosen)
+  pub along_next : (next : State) → step_of own s end st ≡ Ok (Some next) → Along own s end want next (chosen_after want st next.previous chosen)
   along_next next h =
       let w = went own s end st next h in
       let n = number_at s st.at in
@@ -254,19 +251,19 @@ module _ (own : FormatChecks) (s : List ℕ) (end want : ℕ) (st : State) (chos
       (subst (λ (k : ℕ). Along own s end want (past st n len) (chosen_after want st k chosen)) (sym (past_previous st n len))
       (go_next a.fuel refl w.fine w.open_end))
 
-  pub along_done : step_of own s end st ≡ Done → W.Accepted (record { cuts = st.cuts; cut = chosen }) ≡ answer_for want (sections own (length s) s end [] 16)
+  pub along_done : step_of own s end st ≡ (Ok None) → Ok (record { cuts = st.cuts; cut = chosen }) ≡ answer_for want (sections own (length s) s end [] 16)
   unfolding answer_for step_of
   along_done h =
       let d = ended_by own s end st (first_fault (checks_at own s end (context_in st) st.at)) (eqb st.at end) refl refl h in
       rw (go_done a.fuel refl d, a.mirrors.cuts_is, count_cuts a.seen, a.kept)
 
-  pub along_refused : (r : Refusal) → step_of own s end st ≡ Refused r → W.Refused r ≡ answer_for want (sections own (length s) s end [] 16)
+  pub along_refused : (r : Refusal) → step_of own s end st ≡ Err r → Err r ≡ answer_for want (sections own (length s) s end [] 16)
   unfolding answer_for step_of
   along_refused r h =
       rw (go_refused a.fuel r refl (refused_by s end st r (first_fault (checks_at own s end (context_in st) st.at)) (eqb st.at end) refl h))
 
   -- how far a step goes
-  pub further : (next : State) → step_of own s end st ≡ Next next → (st.at < next.at) × (next.at ≤ end)
+  pub further : (next : State) → step_of own s end st ≡ Ok (Some next) → (st.at < next.at) × (next.at ≤ end)
   further next h =
       let w = went own s end st next h in
       let fr = fine_framed own s end (context_in st) st.at w.open_end w.fine in

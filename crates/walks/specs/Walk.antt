@@ -1,5 +1,5 @@
 -- The walk's own state, for the contracts of its functions. No part of what a reader must believe: `walk` promises `verdict`.
-use Rattle.std.specs.Prelude.{ℕ, ◌+◌, ◌≤◌, ◌≡◌, List, cond, length, eqb}
+use Rattle.std.specs.Prelude.{ℕ, ◌+◌, ◌≤◌, ◌≡◌, List, cond, length, eqb, Err, None, Ok, Option, Result, Some, ⊤}
 use Rattle.rules.specs.Fields.{length_at, number_at, points_at}
 use Rattle.base_format.specs.Fields.{greatest_at}
 use Rattle.sections.specs.declared.Context.{Context}
@@ -10,13 +10,7 @@ use Rattle.sections.specs.declared.Cut.{Cut}
 use Rattle.walks.specs.declared.State.{State}
 use Rattle.walks.specs.declared.ReadAs.{ReadAs}
 use Rattle.walks.specs.declared.ReadAs.TheVariants.{RunLength, DualPolarisation, AnyData}
-use Rattle.sections.specs.declared.Judged.{Judged}
-use Rattle.sections.specs.declared.Judged.TheVariants as J
-use Rattle.walks.specs.declared.Walked.{Walked}
-use Rattle.walks.specs.declared.Walked.TheVariants as W
-use Rattle.walks.specs.declared.Ended.{Ended}
-use Rattle.walks.specs.declared.Step.{Step}
-use Rattle.walks.specs.declared.Step.TheVariants.{Next, Done, Refused}
+use Rattle.sections.specs.declared.Refusal.{Refusal}
 
 -- past a section of number n and length len
 unfoldable pub past : State → ℕ → ℕ → State
@@ -51,18 +45,10 @@ pub record Sound (format : ReadAs) (s : List ℕ) (end : ℕ) (st : State) : Typ
   pub ready : st.previous ≡ 6 → Ready format s (context_in st)
   pub few : st.cuts ≤ st.at
 
-abbrev pub step_from : List ℕ → ℕ → State → Judged → Step
-step_from s end st J.Accepted = cond (eqb st.at end) Done (Next (past st (number_at s st.at) (length_at s st.at)))
-step_from s end st (J.Refused r) = Refused r
+abbrev pub step_from : List ℕ → ℕ → State → Result ⊤ Refusal → Result (Option State) Refusal
+step_from s end st (Ok tt) = cond (eqb st.at end) (Ok None) (Ok (Some (past st (number_at s st.at) (length_at s st.at))))
+step_from s end st (Err r) = Err r
 
 -- one step of the walk, by a format's own checks
-unfoldable pub step_of : FormatChecks → List ℕ → ℕ → State → Step
+unfoldable pub step_of : FormatChecks → List ℕ → ℕ → State → Result (Option State) Refusal
 step_of own s end st = step_from s end st (first_fault (checks_at own s end (context_in st) st.at))
-
--- what the walk answers where it ended
-abbrev pub answer_by : Judged → ℕ → Cut → Walked
-answer_by J.Accepted n c = W.Accepted (record { cuts = n; cut = c })
-answer_by (J.Refused r) n c = W.Refused r
-
-unfoldable pub ended_as : Ended → Walked
-ended_as e = answer_by e.judged e.cuts e.cut

@@ -12,21 +12,15 @@ ghost use Rattle.dual_format.specs.Verdict.{verdict as dual_verdict};
 ghost use Rattle.walks.specs.Formats.{own_of};
 ghost use Rattle.walks.specs.Answer.{answer_for};
 ghost use Rattle.walks.specs.Places.{first_in, context_in};
-ghost use Rattle.walks.specs.Walk.{past, cut_ended, chosen_after, Ready, Sound, step_of, ended_as};
+ghost use Rattle.walks.specs.Walk.{past, cut_ended, chosen_after, Ready, Sound, step_of};
 
-use sections::{Context, Cut, Judged, Refusal, Why};
+use sections::{Context, Cut, Refusal, Why};
 
 // An accepted file: how many cuts it has, and the one that was asked for.
 #[derive(Clone, Copy)]
 pub struct Found {
     pub cuts: usize,
     pub cut: Cut,
-}
-
-#[derive(Clone, Copy)]
-pub enum Walked {
-    Accepted(Found),
-    Refused(Refusal),
 }
 
 // What a file is read as.
@@ -49,24 +43,8 @@ struct State {
     section5: usize,
 }
 
-#[derive(Clone, Copy)]
-enum Step {
-    Next(State),
-    Done,
-    Refused(Refusal),
-}
-
-// Where the walk ended: what the last checks came to, the cuts ended and the chosen one. One shape for both ways out, so that the compiler has nothing to
-// keep for the way out while it scans data.
-#[derive(Clone, Copy)]
-struct Ended {
-    judged: Judged,
-    cuts: usize,
-    cut: Cut,
-}
-
 // The checks of a section 7.
-fn judge7(format: ReadAs, s: &[u8], x: Context, at: usize) -> Judged
+fn judge7(format: ReadAs, s: &[u8], x: Context, at: usize) -> Result<(), Refusal>
     requires at_in_bounds { at + length_at s.now at ≤ length s.now }
     requires ready { Ready format s.now x }
     ensures { result ≡ first_fault (own_of format s.now x at 7) }
@@ -79,7 +57,7 @@ fn judge7(format: ReadAs, s: &[u8], x: Context, at: usize) -> Judged
 }
 
 // The checks of the format's own sections other than a 7.
-fn judge_own(format: ReadAs, s: &[u8], x: Context, at: usize, n: u8) -> Judged
+fn judge_own(format: ReadAs, s: &[u8], x: Context, at: usize, n: u8) -> Result<(), Refusal>
     requires at_in_bounds { at + length_at s.now at ≤ length s.now }
     requires fact { n ≡ 7 → ⊥ }
     ensures { result ≡ first_fault (own_of format s.now x at n) }
@@ -91,25 +69,23 @@ fn judge_own(format: ReadAs, s: &[u8], x: Context, at: usize, n: u8) -> Judged
 }
 
 // The checks of the section's own kind, other than a 7: 1 and 6 are every format's.
-fn judge(format: ReadAs, s: &[u8], x: Context, at: usize, n: u8) -> Judged
+fn judge(format: ReadAs, s: &[u8], x: Context, at: usize, n: u8) -> Result<(), Refusal>
     requires at_in_bounds { at + length_at s.now at ≤ length s.now }
     requires fact { n ≡ 7 → ⊥ }
     ensures { result ≡ first_fault (section_checks (own_of format) s.now x at n) }
 {
-    if n == 1 {
-        return sections::judge1(s, at);
+    match n {
+        1 => sections::judge1(s, at),
+        6 => sections::judge6(s, at),
+        _ => judge_own(format, s, x, at, n),
     }
-    if n == 6 {
-        return sections::judge6(s, at);
-    }
-    judge_own(format, s, x, at, n)
 }
 
 // The place of the first cut's section 4; no section stands at 0, so 0 says that none was seen.
 fn first_in(st: State) -> usize
     ensures { result ≡ first_in st }
 {
-    sections::pick(st.first == 0, st.at, st.first)
+    if st.first == 0 { st.at } else { st.first }
 }
 
 // What the checks at the cursor go by.
@@ -128,71 +104,66 @@ fn context_in(st: State) -> Context
 
 // All the checks at the cursor, in order: 3, 9, then the section's own. No cut begins with a section 7, so 9 is not asked there and it goes straight
 // to its checks: the compiler then makes a better loop of the scan, where nearly all the time goes.
-fn judge_here(format: ReadAs, s: &[u8], end: usize, x: Context, at: usize) -> Judged
+fn judge_here(format: ReadAs, s: &[u8], end: usize, x: Context, at: usize) -> Result<(), Refusal>
     requires { (end ≤ length s.now) × (x.previous ≡ 6 → Ready format s.now x) }
     ensures { result ≡ first_fault (checks_at (own_of format) s.now end x at) }
 {
     if at == end {
-        return sections::check(
-            sections::is_closed(s, x, at),
-            Why::Frame,
-            at,
-            sections::accepted(),
-        );
+        return sections::check(sections::is_closed(s, x, at), Why::Frame, at);
     }
-    if sections::is_framed(s, end, x, at) {
-        let n = rules::number_at(s, at);
-        if n == 7 {
-            return judge7(format, s, x, at);
-        }
-        if sections::has_room(s, x, at) {
-            return judge(format, s, x, at, n);
-        }
-        return sections::refused(Why::CutCount, at);
+    sections::check(sections::is_framed(s, end, x, at), Why::Frame, at)?;
+    let n = rules::number_at(s, at);
+    if n == 7 {
+        return judge7(format, s, x, at);
     }
-    sections::refused(Why::Frame, at)
+    sections::check(sections::has_room(s, x, at), Why::CutCount, at)?;
+    judge(format, s, x, at, n)
 }
 
 fn passed(st: State, n: u8, len: usize) -> State
     requires { (st.at + len < 2 ^ 63) × (st.cuts ≤ st.at) }
     ensures { result ≡ past st n len }
 {
-    let at = st.at;
-    let cuts = sections::pick(n == 7, st.cuts + 1, st.cuts);
-    let first = sections::pick(n == 4, first_in(st), st.first);
-    let section3 = sections::pick(n == 3, at, st.section3);
-    let section4 = sections::pick(n == 4, at, st.section4);
-    let section5 = sections::pick(n == 5, at, st.section5);
-    State {
-        at: at + len,
+    let past = State {
+        at: st.at + len,
         previous: n,
-        cuts,
-        first,
-        section3,
-        section4,
-        section5,
+        ..st
+    };
+    match n {
+        3 => State {
+            section3: st.at,
+            ..past
+        },
+        4 => State {
+            first: first_in(st),
+            section4: st.at,
+            ..past
+        },
+        5 => State {
+            section5: st.at,
+            ..past
+        },
+        7 => State {
+            cuts: st.cuts + 1,
+            ..past
+        },
+        _ => past,
     }
 }
 
-// One step of the walk: the checks at the cursor, and past the section where they hold.
-fn one_step(format: ReadAs, s: &[u8], end: usize, st: State) -> Step
+// One step of the walk: the checks at the cursor, and past the section where they hold; None at the end.
+fn one_step(format: ReadAs, s: &[u8], end: usize, st: State) -> Result<Option<State>, Refusal>
     requires { Sound format s.now end st }
     ensures { result ≡ step_of (own_of format) s.now end st }
 {
     let at = st.at;
-    match judge_here(format, s, end, context_in(st), at) {
-        Judged::Refused(refusal) => Step::Refused(refusal),
-        Judged::Accepted => {
-            if at == end {
-                return Step::Done;
-            }
-            Step::Next(passed(
-                st,
-                rules::number_at(s, at),
-                sections::place(rules::length_at(s, at)),
-            ))
-        }
+    judge_here(format, s, end, context_in(st), at)?;
+    if at == end {
+        return Ok(None);
     }
+    let n = rules::number_at(s, at);
+    let len = rules::length_at(s, at) as usize;
+    Ok(Some(passed(st, n, len)))
 }
 
 fn cut_ended(st: State) -> Cut
@@ -220,9 +191,9 @@ fn chosen_after(want: usize, st: State, n: u8, chosen: Cut) -> Cut
 }
 
 // Section after section up to `end`, from section 1 on.
-fn walk_to(format: ReadAs, s: &[u8], end: usize, want: usize) -> Ended
+fn walk_to(format: ReadAs, s: &[u8], end: usize, want: usize) -> Result<Found, Refusal>
     requires { (16 ≤ end) × (end + 4 ≤ length s.now) }
-    ensures { ended_as result ≡ answer_for want (sections (own_of format) (length s.now) s.now end [] 16) }
+    ensures { result ≡ answer_for want (sections (own_of format) (length s.now) s.now end [] 16) }
 {
     let mut st = State {
         at: 16,
@@ -239,76 +210,41 @@ fn walk_to(format: ReadAs, s: &[u8], end: usize, want: usize) -> Ended
         section5: 0,
         section7: 0,
     };
-    loop {
-        match one_step(format, s, end, st) {
-            Step::Done => {
-                return Ended {
-                    judged: Judged::Accepted,
-                    cuts: st.cuts,
-                    cut: chosen,
-                };
-            }
-            Step::Refused(refusal) => {
-                return Ended {
-                    judged: Judged::Refused(refusal),
-                    cuts: st.cuts,
-                    cut: chosen,
-                };
-            }
-            Step::Next(next) => {
-                chosen = chosen_after(want, st, next.previous, chosen);
-                st = next;
-            }
-        }
+    while let Some(next) = one_step(format, s, end, st)? {
+        chosen = chosen_after(want, st, next.previous, chosen);
+        st = next;
     }
+    Ok(Found {
+        cuts: st.cuts,
+        cut: chosen,
+    })
 }
 
-fn ended_as(ended: Ended) -> Walked
-    ensures { result ≡ ended_as ended }
-{
-    let cut = ended.cut;
-    let judged = ended.judged;
-    match judged {
-        Judged::Accepted => Walked::Accepted(Found {
-            cuts: ended.cuts,
-            cut,
-        }),
-        Judged::Refused(refusal) => Walked::Refused(refusal),
-    }
-}
-
-fn walk_as(format: ReadAs, s: &[u8], want: usize) -> Walked
+fn walk_as(format: ReadAs, s: &[u8], want: usize) -> Result<Found, Refusal>
     ensures { result ≡ answer_for want (verdict_by (own_of format) s.now) }
 {
     let n = s.len();
-    if n < 20 {
-        return Walked::Refused(sections::refuse(Why::FileSize, 0));
-    }
-    if 8388608 < n {
-        return Walked::Refused(sections::refuse(Why::FileSize, 0));
-    }
-    if rules::fields0(s) {
-        return ended_as(walk_to(format, s, n - 4, want));
-    }
-    Walked::Refused(sections::refuse(Why::Section0, 0))
+    sections::check((20 <= n) & (n <= 8388608), Why::FileSize, 0)?;
+    sections::check(rules::fields0(s), Why::Section0, 0)?;
+    walk_to(format, s, n - 4, want)
 }
 
 // The verdict on any octets as a run-length packed file, with the number of cuts and the places of cut `want`.
-pub fn walk(s: &[u8], want: usize) -> Walked
+pub fn walk(s: &[u8], want: usize) -> Result<Found, Refusal>
     ensures { result ≡ answer_for want (verdict s.now) }
 {
     walk_as(ReadAs::RunLength, s, want)
 }
 
 // The same as a dual-polarisation file.
-pub fn walk_dual(s: &[u8], want: usize) -> Walked
+pub fn walk_dual(s: &[u8], want: usize) -> Result<Found, Refusal>
     ensures { result ≡ answer_for want (dual_verdict s.now) }
 {
     walk_as(ReadAs::DualPolarisation, s, want)
 }
 
 // The same as a run-length packed file whose data may be anything.
-pub fn walk_any(s: &[u8], want: usize) -> Walked
+pub fn walk_any(s: &[u8], want: usize) -> Result<Found, Refusal>
     ensures { result ≡ answer_for want (any_data_verdict s.now) }
 {
     walk_as(ReadAs::AnyData, s, want)

@@ -1,21 +1,22 @@
 -- `run_read` meets its contract: the tests in the order of FORMAT.md, "Order of checks", then the scan, then all bins, which the octets are known to give.
-use Prim.Native.Nat.{ℕ, ◌-◌}
+use Prim.Native.Nat.{◌-◌, ◌≤◌}
 use mathlib.Core.Path.{◌≡◌, refl, sym, ap, ◌∙◌}
-use mathlib.Core.Bool.{true}
 use mathlib.Core.List.{List}
+use mathlib.Core.Bool.{true}
+use Prim.Native.Nat.{ℕ}
 use native.Mathlib.Omega.{arith}
 use lib.ListN.{length}
 use lib.Seq.{take_all}
 use borrow.Author.Tests.{lt-ltb, le-ltb, le-leb}
-use Prim.Native.Nat.{◌≤◌}
 use Rattle.runs.specs.Run.{levels, gives, fault_at}
 use Rattle.lent.specs.Lent.{front}
 use Rattle.bare.specs.Read.{read_answer}
 use Rattle.bare.specs.declared.ReadRefusal.TheVariants.{Data}
-use Rattle.bare.specs.declared.RunRead.TheVariants.{Refused}
 use Rattle.runs.proofs.Here.{gives_true}
-use Rattle.scan.proofs.Scanning.{told, missed}
+use Rattle.octets.proofs.Exits.{passed_on}
+use Rattle.bare.proofs.Mapped.{mapped_scan, found_all}
 use Rattle.bare.proofs.run_read.Goals as goal
+use Rattle.std.specs.Prelude.{Err, Result, ⊤}
 
 pub returns-then-v-gt253 : goal.returns-then-v-gt253
 unfolding read_answer
@@ -29,21 +30,24 @@ pub returns-then-out-n : goal.returns-then-out-n
 unfolding read_answer
 returns-then-out-n c = let few : c.args.n ≤ 2097152 = omega arith in record { answered = simp (lt-ltb _ _ c.if-out-n.true, le-ltb _ _ few, le-ltb _ _ c.if-v-gt253.false); held = refl }
 
-pub returns-in-Off : goal.returns-in-Off
+-- the scan, as the refusal that comes of it
+pub returns-in_err-map_err : goal.returns-in_err-map_err
 unfolding read_answer
-returns-in-Off c = let no = missed (gives c.args.v c.args.n c.args.octets.now) (fault_at c.args.v c.args.n c.args.octets.now) c.in-Off.at (sym c.in-Off.is ∙ c.scan_runs-found.ensures) in
-    record { answered = simp (le-ltb _ _ c.if-out-n.false, le-ltb _ _ c.if-n-gt2097152.false, le-ltb _ _ c.if-v-gt253.false, no.0) (ap (λ (i : ℕ). Refused (Data i)) no.1); held = refl }
+returns-in_err-map_err c =
+    let told = mapped_scan Data c.args.v c.args.n c.args.octets.now _ _ c.scan_runs.ensures c.map_err.ensures.cases in
+    let out = passed_on _ _ c.from_residual.ensures.1 in
+    rw out (record { answered = simp (le-ltb _ _ c.if-out-n.false, le-ltb _ _ c.if-n-gt2097152.false, le-ltb _ _ c.if-v-gt253.false) (sym c.in_err-map_err.was ∙ told); held = refl })
 
-pub levels_upto-requires : goal.levels_upto-requires
-levels_upto-requires c =
-    let exact : gives c.args.v c.args.n c.args.octets.now ≡ true = told _ _ (sym c.in_default.is ∙ c.scan_runs-found.ensures) in
-    let g = gives_true c.args.v c.args.n c.args.octets.now exact in record { v_bound = (omega arith, omega arith, g.0); a_le_b = (omega arith, omega arith) }
+pub levels_upto-requires-clause-v_bound : goal.levels_upto-requires-clause-v_bound
+levels_upto-requires-clause-v_bound c =
+    let told = mapped_scan Data c.args.v c.args.n c.args.octets.now _ _ c.scan_runs.ensures c.map_err.ensures.cases in
+    let g = gives_true c.args.v c.args.n c.args.octets.now (found_all Data _ _ (sym c.in_ok-map_err.was ∙ told)) in (omega arith, omega arith, g.0)
 
 pub returns : goal.returns
 unfolding read_answer
 returns c =
-    let exact : gives c.args.v c.args.n c.args.octets.now ≡ true = told _ _ (sym c.in_default.is ∙ c.scan_runs-found.ensures) in
-    let yes = exact in
+    let told = mapped_scan Data c.args.v c.args.n c.args.octets.now _ _ c.scan_runs.ensures c.map_err.ensures.cases in
+    let yes = found_all Data _ _ (sym c.in_ok-map_err.was ∙ told) in
     let g = gives_true c.args.v c.args.n c.args.octets.now yes in
     record {
       answered = simp (le-ltb _ _ c.if-out-n.false, le-ltb _ _ c.if-n-gt2097152.false, le-ltb _ _ c.if-v-gt253.false, yes);

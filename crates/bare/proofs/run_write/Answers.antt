@@ -9,8 +9,8 @@ use borrow.Author.Tests.{lt-ltb, le-ltb, leb-true, leb-false}
 use Rattle.lent.specs.Lent.{front}
 use Rattle.packing.specs.Write.{greatest, written}
 use Rattle.bare.specs.Write.{write_answer}
-use Rattle.bare.specs.declared.RunWrite.TheVariants.{Wrote}
 use Rattle.bare.proofs.run_write.Goals as goal
+use Rattle.std.specs.Prelude.{Ok}
 
 pub returns-then-levels-gt2097152 : goal.returns-then-levels-gt2097152
 unfolding write_answer
@@ -40,6 +40,6 @@ returns c = let room = length c.args.out.now in
     let yes : leb (length (written (greatest c.args.levels.now) c.args.levels.now)) room ≡ true = ap (λ (x : ℕ). leb (length (written x c.args.levels.now)) room) (sym c.greatest_of-v.ensures) ∙ sym c.has_room.ensures ∙ c.if-not-has_room.false in
     let enough : length (written (greatest c.args.levels.now) c.args.levels.now) ≤ room = leb-true _ _ yes in
     record {
-      answered = simp (le-ltb _ _ c.if-levels-gt2097152.false, le-ltb _ _ low, le-ltb _ _ enough) (λ i. Wrote (c.greatest_of-v.ensures i) (n i));
+      answered = simp (le-ltb _ _ c.if-levels-gt2097152.false, le-ltb _ _ low, le-ltb _ _ enough) (λ i. Ok (record { v = c.greatest_of-v.ensures i; len = n i }));
       held = c.put_all-len.ensures.out_after ∙ ap (λ (x : ℕ). front (written x c.args.levels.now) c.args.out.now) c.greatest_of-v.ensures;
     }

@@ -1,20 +1,21 @@
 -- By the number of the section.
 use Rattle.base_format.specs.Checks.{base_checks}
-use borrow.Author.Tests.{eq-eqb, ne_eqb}
+use borrow.Author.Tests.{ne_eqb}
+use native.Mathlib.Omega.{arith}
 use Rattle.base_format.proofs.judge.Goals as goal
 
-pub returns-then-n-eq3 : goal.returns-then-n-eq3
+pub returns-in-3 : goal.returns-in-3
 unfolding base_checks
-returns-then-n-eq3 c = rw (eq-eqb c.args.n 3 c.if-n-eq3.true) c.judge3.ensures
+returns-in-3 c = rw c.in-3.is c.judge3.ensures
 
-pub returns-then-n-eq4 : goal.returns-then-n-eq4
+pub returns-in-4 : goal.returns-in-4
 unfolding base_checks
-returns-then-n-eq4 c = rw (ne_eqb c.args.n 3 c.if-n-eq3.false, eq-eqb c.args.n 4 c.if-n-eq4.true) c.judge4.ensures
+returns-in-4 c = rw c.in-4.is c.judge4.ensures
 
-pub returns-then-n-eq5 : goal.returns-then-n-eq5
+pub returns-in-5 : goal.returns-in-5
 unfolding base_checks
-returns-then-n-eq5 c = rw (ne_eqb c.args.n 3 c.if-n-eq3.false, ne_eqb c.args.n 4 c.if-n-eq4.false, eq-eqb c.args.n 5 c.if-n-eq5.true) c.judge5.ensures
+returns-in-5 c = rw c.in-5.is c.judge5.ensures
 
-pub returns : goal.returns
+pub returns-in_default : goal.returns-in_default
 unfolding base_checks
-returns c = rw (ne_eqb c.args.n 3 c.if-n-eq3.false, ne_eqb c.args.n 4 c.if-n-eq4.false, ne_eqb c.args.n 5 c.if-n-eq5.false, ne_eqb c.args.n 7 c.requires.fact)
+returns-in_default c = rw (ne_eqb c.args.n 3 (λ e. omega arith), ne_eqb c.args.n 4 (λ e. omega arith), ne_eqb c.args.n 5 (λ e. omega arith), ne_eqb c.args.n 7 c.requires.fact)

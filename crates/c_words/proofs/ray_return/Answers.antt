@@ -2,7 +2,7 @@
 use Rattle.c_words.proofs.ray_return.Goals as goal
 
 pub word_of-requires : goal.word_of-requires
-word_of-requires c = rw c.in-Refused.is at c.requires
+word_of-requires c = rw c.in-Err.is at c.requires
 
-pub returns-in-Refused : goal.returns-in-Refused
-returns-in-Refused c = rw c.in-Refused.is c.word_of.ensures
+pub returns-in-Err : goal.returns-in-Err
+returns-in-Err c = rw c.in-Err.is c.word_of.ensures

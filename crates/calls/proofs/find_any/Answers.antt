@@ -1,9 +1,11 @@
 -- What was sought, by what the walk answered.
-use Rattle.calls.proofs.Finding.{sought_walked}
-use Rattle.calls.specs.Cuts.{sought_by}
-use mathlib.Core.Path.{◌∙◌, ap}
+use Rattle.octets.proofs.Exits.{passed_on}
+use Rattle.calls.proofs.Finding.{sought_walked, sought_refused}
+use mathlib.Core.Path.{sym, ◌∙◌}
 use Rattle.calls.proofs.find_any.Goals as goal
 
+pub returns-in_err-walk_any : goal.returns-in_err-walk_any
+returns-in_err-walk_any c = passed_on _ _ c.from_residual.ensures.1 ∙ sought_refused c.args.i _ _ (sym c.walk_any.ensures ∙ c.in_err-walk_any.was)
+
 pub returns : goal.returns
-returns c =
-    c.sought_by.ensures ∙ ap (sought_by c.args.i) c.walk_any.ensures ∙ sought_walked c.args.i _
+returns c = c.sought_by.ensures ∙ sought_walked c.args.i _ _ (sym c.walk_any.ensures ∙ c.in_ok-walk_any.was)

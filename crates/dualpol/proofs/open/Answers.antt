@@ -1,14 +1,16 @@
 -- By what the walk answers.
+use Rattle.octets.proofs.Exits.{passed_on}
 use Rattle.calls.proofs.Finding.{file_some, file_bad}
-use Rattle.dualpol.specs.declared.DualOpened.TheVariants.{File}
 use mathlib.Core.Path.{sym, ◌∙◌, ap}
 use Rattle.dualpol.specs.Answers.{open_answer}
 use Rattle.dualpol.proofs.open.Goals as goal
+use Rattle.std.specs.Prelude.{Ok}
 
-pub returns-in-Accepted : goal.returns-in-Accepted
+pub returns : goal.returns
 unfolding open_answer
-returns-in-Accepted c = ap File c.summary_of.ensures ∙ sym (file_some _ _ _ _ (sym c.walk_dual.ensures ∙ c.in-Accepted.is))
+returns c = ap Ok c.summary_of.ensures ∙ sym (file_some _ _ _ _ (sym c.walk_dual.ensures ∙ c.in_ok-found.was))
 
-pub returns-in-Refused : goal.returns-in-Refused
+pub returns-in_err-found : goal.returns-in_err-found
 unfolding open_answer
-returns-in-Refused c = sym (file_bad _ _ _ _ (sym c.walk_dual.ensures ∙ c.in-Refused.is))
+returns-in_err-found c =
+    passed_on _ _ c.from_residual.ensures.1 ∙ sym (file_bad _ _ _ _ (sym c.walk_dual.ensures ∙ c.in_err-found.was))

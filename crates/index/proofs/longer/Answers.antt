@@ -6,11 +6,11 @@ use Rattle.runs.proofs.Upto.{cut_told, cut_ended_lem}
 use Rattle.index.proofs.Usable.{longer_none, longer_cut}
 use Rattle.index.proofs.longer.Goals as goal
 
-pub returns-in-Run : goal.returns-in-Run
-returns-in-Run c =
-    let t = cut_told c.args.v _ c.args.octets.now 0 _ _ _ (sym c.in-Run.is ∙ c.run_upto.ensures) in
+pub returns-in-Some : goal.returns-in-Some
+returns-in-Some c =
+    let t = cut_told c.args.v _ c.args.octets.now 0 _ (sym c.in-Some.is ∙ c.run_upto.ensures) in
     longer_cut c.args.v 0 c.args.octets.now c.args.before t.inside _ _ t.is t.size
 
-pub returns-in-End : goal.returns-in-End
-returns-in-End c =
-    longer_none c.args.v 0 c.args.octets.now c.args.before (cut_ended_lem c.args.v (c.args.before + 1) c.args.octets.now 0 (sym c.in-End.is ∙ c.run_upto.ensures) (omega arith))
+pub returns-in-None : goal.returns-in-None
+returns-in-None c =
+    longer_none c.args.v 0 c.args.octets.now c.args.before (cut_ended_lem c.args.v (c.args.before + 1) c.args.octets.now 0 (sym c.in-None.is ∙ c.run_upto.ensures) (omega arith))

@@ -1,20 +1,23 @@
--- `by_number` meets its contract: the tests in the table's order.
-use borrow.Author.Tests.{eq-eqb, ne_eqb}
+-- Each number of the table, and none besides.
+use Rattle.std.proofs.Common.{rules}
+use mathlib.Core.Path.{refl}
+use native.Mathlib.Omega.{arith}
+use borrow.Author.Tests.{ne_eqb}
 use Rattle.kinds.specs.KindTable.{kind_by}
 use Rattle.kinds.proofs.by_number.Goals as goal
 
-pub returns-then-number-eq-MISSING : goal.returns-then-number-eq-MISSING
+pub returns-in-0 : goal.returns-in-0
 unfolding kind_by
-returns-then-number-eq-MISSING c = simp (eq-eqb _ _ c.if-number-eq-MISSING.true)
+returns-in-0 c = rw c.in-0.is refl
 
-pub returns-then-number-eq-UNDER : goal.returns-then-number-eq-UNDER
+pub returns-in-1 : goal.returns-in-1
 unfolding kind_by
-returns-then-number-eq-UNDER c = simp (ne_eqb _ _ c.if-number-eq-MISSING.false, eq-eqb _ _ c.if-number-eq-UNDER.true)
+returns-in-1 c = rw c.in-1.is refl
 
-pub returns-then-number-eq-OVER : goal.returns-then-number-eq-OVER
+pub returns-in-2 : goal.returns-in-2
 unfolding kind_by
-returns-then-number-eq-OVER c = simp (ne_eqb _ _ c.if-number-eq-MISSING.false, ne_eqb _ _ c.if-number-eq-UNDER.false, eq-eqb _ _ c.if-number-eq-OVER.true)
+returns-in-2 c = rw c.in-2.is refl
 
-pub returns : goal.returns
+pub returns-in_default : goal.returns-in_default
 unfolding kind_by
-returns c = simp (ne_eqb _ _ c.if-number-eq-MISSING.false, ne_eqb _ _ c.if-number-eq-UNDER.false, ne_eqb _ _ c.if-number-eq-OVER.false)
+returns-in_default c = simp (ne_eqb c.args.number 0 (λ e. omega arith), ne_eqb c.args.number 1 (λ e. omega arith), ne_eqb c.args.number 2 (λ e. omega arith))

@@ -15,8 +15,8 @@ put_more_lines-requires c = record { in_words = rw c.in-ToWrite.is at c.requires
 
 pub returns-in-Refused : goal.returns-in-Refused
 returns-in-Refused c =
-    step_refused c.args.file.now c.args.words.now c.args.text.now c.put_refused-to.new.out c.args.p c.args.at c.put_refused-to.result c.number_of.result
-    c.in-Refused.refusal.place c.in-Refused.refusal c.in-Refused.is c.number_of.ensures refl c.put_refused-to.ensures
+    step_refused c.args.file.now c.args.words.now c.args.text.now c.put_refused-to.new.out c.args.p c.args.at c.put_refused-to.result c.from-number.result
+    c.in-Refused.refusal.place c.in-Refused.refusal c.in-Refused.is c.from-number.ensures refl c.put_refused-to.ensures
 
 pub returns-in-Head : goal.returns-in-Head
 returns-in-Head c =

@@ -1,11 +1,11 @@
 -- By the test for 0xFFFF.
 use Rattle.polar.specs.Opening.{elevation_of}
-use Rattle.polar.specs.declared.Elevation.TheVariants.{Hundredths}
 use mir.ValLaws.{to_z-of_z}
 use mir.Syntax.{w32}
 use borrow.Author.Tests.{eq-eqb, ne_eqb}
 use mathlib.Core.Path.{◌∙◌, ap}
 use Rattle.polar.proofs.elevation_of.Goals as goal
+use Rattle.std.specs.Prelude.{Some}
 
 pub returns-then-n-eq65535 : goal.returns-then-n-eq65535
 unfolding elevation_of
@@ -13,4 +13,4 @@ returns-then-n-eq65535 c = rw (eq-eqb _ _ c.if-n-eq65535.true)
 
 pub returns-else-n-eq65535 : goal.returns-else-n-eq65535
 unfolding elevation_of
-returns-else-n-eq65535 c = rw (ne_eqb _ _ c.if-n-eq65535.false) (ap Hundredths (to_z-of_z w32 c.signed16.result (record { sfits = c.signed16.type_inv }) ∙ c.signed16.ensures))
+returns-else-n-eq65535 c = rw (ne_eqb _ _ c.if-n-eq65535.false) (ap Some (to_z-of_z w32 c.signed16.result (record { sfits = c.signed16.type_inv }) ∙ c.signed16.ensures))

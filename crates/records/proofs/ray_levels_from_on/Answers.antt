@@ -1,24 +1,26 @@
 -- By what the call asks of the cut (`calls` Judging.antt), and then by whether the record fits.
+use Rattle.octets.proofs.Exits.{passed_on}
 use mathlib.Core.Path.{refl, sym, ◌∙◌, ap}
 use mathlib.Core.Bool.{Bool, cond}
 use borrow.Author.Tests.{leb-true}
 use Rattle.sections.specs.Refusal.{refuse}
 use Rattle.sections.specs.declared.Why.TheVariants.{Record}
 use Rattle.cuts.specs.Records.{usable_in}
-use Rattle.calls.specs.declared.RayAnswer.TheVariants.{Written, Refused}
 use Rattle.calls.proofs.Judging.{judged_bad, judged_fine, written_if}
 use Rattle.records.specs.Records.{from_on}
 use Rattle.records.proofs.ray_levels_from_on.Goals as goal
+use Rattle.std.specs.Prelude.{Err, Ok}
 
-pub returns-in-Refused : goal.returns-in-Refused
+pub returns-in_err-judge_ray : goal.returns-in_err-judge_ray
 unfolding from_on
-returns-in-Refused c = record { value = sym (judged_bad Refused c.args.c (usable_in c.args.file.now c.args.c c.args.rec) Written _ _ _ (sym c.judge_ray-judged.ensures ∙ c.in-Refused.is)); out_after = refl }
+returns-in_err-judge_ray c =
+    rw (passed_on _ _ c.from_residual.ensures.1) (record { value = sym (judged_bad Err c.args.c (usable_in c.args.file.now c.args.c c.args.rec) (Ok tt) _ _ _ (sym c.judge_ray.ensures ∙ c.in_err-judge_ray.was)); out_after = refl })
 
 pub levels_from-requires : goal.levels_from-requires
-levels_from-requires c = record { any_data_cut = c.requires; c_in_bounds = leb-true _ _ (judged_fine _ _ (sym c.judge_ray-judged.ensures ∙ c.in_default.is)).1 }
+levels_from-requires c = record { any_data_cut = c.requires; c_in_bounds = leb-true _ _ (judged_fine _ _ (sym c.judge_ray.ensures ∙ c.in_ok-judge_ray.was)).1 }
 
 pub returns : goal.returns
 unfolding from_on
 returns c =
-    let h = judged_fine _ _ (sym c.judge_ray-judged.ensures ∙ c.in_default.is) in
-    let none = refuse Record c.args.c.section7 in record { value = rw (h.0, h.1) (c.by_record.ensures ∙ ap (λ (x : Bool). cond x Written (Refused none)) c.levels_from.ensures.value); out_after = written_if c.levels_from.result none _ _ _ _ c.by_record.ensures c.levels_from.ensures.out_after }
+    let h = judged_fine _ _ (sym c.judge_ray.ensures ∙ c.in_ok-judge_ray.was) in
+    let none = refuse Record c.args.c.section7 in record { value = rw (h.0, h.1) (c.check.ensures ∙ ap (λ (x : Bool). cond x (Ok tt) (Err none)) c.levels_from.ensures.value); out_after = written_if c.levels_from.result none _ _ _ _ c.check.ensures c.levels_from.ensures.out_after }

@@ -5,8 +5,8 @@ use Rattle.runs.specs.Run.{levels}
 use Rattle.runs.proofs.Upto.{Upto}
 use Rattle.runs.proofs.levels_upto.Given as goal
 
-abbrev pub invariant-loop-level : goal.invariant-loop-level
-invariant-loop-level l = Upto l.v l.octets l.b l.at l.bins × (l.out ≡ front (between l.a l.bins (levels l.v l.octets)) l.initial.out)
+abbrev pub invariant-loop-run : goal.invariant-loop-run
+invariant-loop-run l = Upto l.v l.octets l.b l.at l.bins × (l.out ≡ front (between l.a l.bins (levels l.v l.octets)) l.initial.out)
 
-abbrev pub decreases-loop-level : goal.decreases-loop-level
-decreases-loop-level l = l.b - l.bins
+abbrev pub decreases-loop-run : goal.decreases-loop-run
+decreases-loop-run l = l.b - l.bins

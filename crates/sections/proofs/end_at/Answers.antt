@@ -9,7 +9,7 @@ use Rattle.sections.proofs.end_at.Goals as goal
 
 pub returns-then-at-s : goal.returns-then-at-s
 unfolding length_at
-returns-then-at-s c = ap (λ (n : ℕ). c.args.at + n) (c.place.ensures ∙ c.length_at.ensures)
+returns-then-at-s c = ap (λ (n : ℕ). c.args.at + n) c.length_at.ensures
 
 pub returns-else-at-s : goal.returns-else-at-s
 unfolding length_at field

@@ -9,8 +9,8 @@ use Rattle.rules.specs.Fields.{length_at, number_at}
 use Rattle.rules.proofs.Moved.{part_field}
 use Rattle.sections.proofs.is_framed.Goals as goal
 
-pub overflow_add-to : goal.overflow_add-to
-overflow_add-to c =
+pub overflow_add-head : goal.overflow_add-head
+overflow_add-head c =
     let five : c.args.at + 5 ≤ c.args.end = leb-true _ _ (sym c.ends_by.ensures ∙ c.if-ends_by.true) in
     let f = five in record { fits = omega (arith, c.requires) }
 

@@ -1,19 +1,23 @@
 -- The length, then the fields, which are read in the section's own octets.
-use mathlib.Core.Path.{refl, sym, ◌∙◌}
+use mathlib.Core.Path.{◌≡◌, refl, ◌∙◌}
+use mathlib.Core.Bool.{true}
+use lib.Dec.{eqb}
 use Prim.Native.Nat.{◌+◌, ◌≤◌}
 use native.Mathlib.Omega.{arith}
 use lib.ListN.{length}
-use borrow.Author.Tests.{eq-eqb, ne_eqb}
+use borrow.Author.Tests.{eqb-true}
 use Rattle.rules.specs.Rules.{rules6}
 use Rattle.rules.proofs.Moved.{part_rules}
+use Rattle.sections.proofs.Checking.{failed, held}
 use Rattle.sections.proofs.judge6.Goals as goal
 
-pub returns-then-length_at-ne6 : goal.returns-then-length_at-ne6
-returns-then-length_at-ne6 c = rw (ne_eqb _ 6 (λ e. c.if-length_at-ne6.true (c.length_at.ensures ∙ e))) c.refused.ensures
+pub returns-in_err-check : goal.returns-in_err-check
+returns-in_err-check c = let f = failed _ _ _ c.check.ensures _ c.in_err-check.was c.from_residual.ensures.1 in rw (← c.length_at.ensures, f.0) f.1
 
 pub returns : goal.returns
 unfolding rules6
 returns c =
-    let inside : c.args.at + 6 ≤ length c.args.s.now = omega (arith, c.length_at.ensures, c.requires) in
+    let long : eqb c.length_at.result 6 ≡ true = held _ _ _ c.check.ensures c.in_ok-check.was in
+    let inside : c.args.at + 6 ≤ length c.args.s.now = omega (arith, eqb-true c.length_at.result 6 long, c.length_at.ensures, c.requires) in
     let part = part_rules c.args.s.now c.args.at (c.args.at + 6) inside 6 (omega arith) rules6 refl in
-    rw (eq-eqb _ 6 (sym c.length_at.ensures ∙ c.if-length_at-ne6.false), c.check.ensures, c.accepted.ensures, c.fields6-fields6.ensures ∙ part)
+    rw (← c.length_at.ensures, long, c.check-2.ensures, c.fields6.ensures ∙ part)

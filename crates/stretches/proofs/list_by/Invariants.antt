@@ -14,8 +14,8 @@ abbrev pub decreases-loop-bin : goal.decreases-loop-bin
 decreases-loop-bin l = l.bin
 
 -- the outer loop: what is in hand ends within the ray, and what is due is what is promised
-abbrev pub invariant-loop-level : goal.invariant-loop-level
-invariant-loop-level l = Going (kind_by_table l.kinds) l.v l.nb l.nr l.octets l.at l.ray l.bin l.first l.held × (l.bin < l.nb) × (promised l.nr l.initial.out (stretches_from (kind_by_table l.kinds) l.v l.octets l.nb l.nr l.from) ≡ due (kind_by_table l.kinds) l.v l.nb l.nr l.octets l.from l.cap l.out l.count l.ray l.first)
+abbrev pub invariant-loop-run : goal.invariant-loop-run
+invariant-loop-run l = Going (kind_by_table l.kinds) l.v l.nb l.nr l.octets l.at l.ray l.bin l.first l.held × (l.bin < l.nb) × (promised l.nr l.initial.out (stretches_from (kind_by_table l.kinds) l.v l.octets l.nb l.nr l.from) ≡ due (kind_by_table l.kinds) l.v l.nb l.nr l.octets l.from l.cap l.out l.count l.ray l.first)
 
-abbrev pub decreases-loop-level : goal.decreases-loop-level
-decreases-loop-level l = length l.octets - l.at
+abbrev pub decreases-loop-run : goal.decreases-loop-run
+decreases-loop-run l = length l.octets - l.at

@@ -25,8 +25,8 @@ joined a bins to h = omega arith
 within : (a to b n : ℕ) → n ≡ to - a → to ≤ b → n ≤ b - a
 within a to b n e h = omega arith
 
-pub loop-level-init : goal.loop-level-init
-loop-level-init c = let L = levels c.args.v c.args.octets.now in
+pub loop-run-init : goal.loop-run-init
+loop-run-init c = let L = levels c.args.v c.args.octets.now in
     let none : 0 - c.args.a ≡ 0 = omega arith in
     let bare : between c.args.a 0 L ≡ take 0 (drop c.args.a L) = ap (λ (n : ℕ). take n (drop c.args.a L)) none in (
       record { few = omega arith; within = omega arith; stands = λ _. stands_first c.args.v c.args.octets.now c.requires.bins.opened },
@@ -35,81 +35,81 @@ loop-level-init c = let L = levels c.args.v c.args.octets.now in
     )
 
 pub overflow_sub-b : goal.overflow_sub-b
-overflow_sub-b c = c.loop-level.invariant.0.few
+overflow_sub-b c = c.loop-run.invariant.0.few
 
 pub run_upto-requires : goal.run_upto-requires
 run_upto-requires c = (base_low c.args.product c.args.v c.requires.bins.low, omega (arith, c.requires.bins.near))
 
 pub reading_in-reading-requires : goal.reading_in-reading-requires
 reading_in-reading-requires c =
-    let run : CutOff c.args.v c.args.octets.now c.loop-level.at (c.args.b - c.loop-level.bins) c.in-Run.level c.in-Run.len c.in-Run.next = cut_told c.args.v _ c.args.octets.now c.loop-level.at _ _ _ (sym c.in-Run.is ∙ c.run_upto.ensures) in
-    let r = run in record { table_value = c.requires.table_value; level_bound = omega (arith, c.requires.bins.low, r.is, here_low c.args.v c.args.octets.now c.loop-level.at c.loop-level.bins (upto_stands _ _ _ _ _ c.loop-level.invariant.0 _ _ _ r) (upto_more _ _ _ _ _ c.loop-level.invariant.0 _ _ _ r)) }
+    let run : CutOff c.args.v c.args.octets.now c.loop-run.at (c.args.b - c.loop-run.bins) c.in-Some.run'.level c.in-Some.run'.len c.in-Some.run'.next = cut_told c.args.v _ c.args.octets.now c.loop-run.at _ (sym c.in-Some.is ∙ c.run_upto.ensures) in
+    let r = run in record { table_value = c.requires.table_value; level_bound = omega (arith, c.requires.bins.low, r.is, here_low c.args.v c.args.octets.now c.loop-run.at c.loop-run.bins (upto_stands _ _ _ _ _ c.loop-run.invariant.0 _ _ _ r) (upto_more _ _ _ _ _ c.loop-run.invariant.0 _ _ _ r)) }
 
 pub overflow_add-to : goal.overflow_add-to
 overflow_add-to c =
-    let run : CutOff c.args.v c.args.octets.now c.loop-level.at (c.args.b - c.loop-level.bins) c.in-Run.level c.in-Run.len c.in-Run.next = cut_told c.args.v _ c.args.octets.now c.loop-level.at _ _ _ (sym c.in-Run.is ∙ c.run_upto.ensures) in
-    let past : (0 < c.in-Run.len) × Upto c.args.v c.args.octets.now c.args.b c.in-Run.next (c.loop-level.bins + c.in-Run.len) = upto_next c.args.v c.args.octets.now c.args.b c.loop-level.at c.loop-level.bins c.loop-level.invariant.0 _ _ _ (run) in
+    let run : CutOff c.args.v c.args.octets.now c.loop-run.at (c.args.b - c.loop-run.bins) c.in-Some.run'.level c.in-Some.run'.len c.in-Some.run'.next = cut_told c.args.v _ c.args.octets.now c.loop-run.at _ (sym c.in-Some.is ∙ c.run_upto.ensures) in
+    let past : (0 < c.in-Some.run'.len) × Upto c.args.v c.args.octets.now c.args.b c.in-Some.run'.next (c.loop-run.bins + c.in-Some.run'.len) = upto_next c.args.v c.args.octets.now c.args.b c.loop-run.at c.loop-run.bins c.loop-run.invariant.0 _ _ _ (run) in
     record { fits = omega (arith, (past).1.few, c.requires.bins.near) }
 
 pub put_reading-requires : goal.put_reading-requires
 put_reading-requires c =
-    let size-marks : length c.loop-level.marks ≡ length c.args.marks.now = ap length c.loop-level.invariant.1 ∙ updated_length _ _ _ in
-    let size-values : length c.loop-level.values ≡ length c.args.values.now = ap length c.loop-level.invariant.2 ∙ updated_length _ _ _ in
-    let run : CutOff c.args.v c.args.octets.now c.loop-level.at (c.args.b - c.loop-level.bins) c.in-Run.level c.in-Run.len c.in-Run.next = cut_told c.args.v _ c.args.octets.now c.loop-level.at _ _ _ (sym c.in-Run.is ∙ c.run_upto.ensures) in
-    let past : (0 < c.in-Run.len) × Upto c.args.v c.args.octets.now c.args.b c.in-Run.next (c.loop-level.bins + c.in-Run.len) = upto_next c.args.v c.args.octets.now c.args.b c.loop-level.at c.loop-level.bins c.loop-level.invariant.0 _ _ _ (run) in
+    let size-marks : length c.loop-run.marks ≡ length c.args.marks.now = ap length c.loop-run.invariant.1 ∙ updated_length _ _ _ in
+    let size-values : length c.loop-run.values ≡ length c.args.values.now = ap length c.loop-run.invariant.2 ∙ updated_length _ _ _ in
+    let run : CutOff c.args.v c.args.octets.now c.loop-run.at (c.args.b - c.loop-run.bins) c.in-Some.run'.level c.in-Some.run'.len c.in-Some.run'.next = cut_told c.args.v _ c.args.octets.now c.loop-run.at _ (sym c.in-Some.is ∙ c.run_upto.ensures) in
+    let past : (0 < c.in-Some.run'.len) × Upto c.args.v c.args.octets.now c.args.b c.in-Some.run'.next (c.loop-run.bins + c.in-Some.run'.len) = upto_next c.args.v c.args.octets.now c.args.b c.loop-run.at c.loop-run.bins c.loop-run.invariant.0 _ _ _ (run) in
     let p = past in (
-      omega (arith, c.excess.ensures, c.excess-in-Run.ensures, p.0),
-      omega (arith, c.excess-in-Run.ensures, p.1.few, size-marks, c.requires.bins.room_marks),
-      omega (arith, c.excess-in-Run.ensures, p.1.few, size-values, c.requires.bins.room_values),
+      omega (arith, c.excess.ensures, c.excess-in-Some.ensures, p.0),
+      omega (arith, c.excess-in-Some.ensures, p.1.few, size-marks, c.requires.bins.room_marks),
+      omega (arith, c.excess-in-Some.ensures, p.1.few, size-values, c.requires.bins.room_values),
     )
 
-pub loop-level-smaller : goal.loop-level-smaller
-loop-level-smaller c =
-    let run : CutOff c.args.v c.args.octets.now c.loop-level.at (c.args.b - c.loop-level.bins) c.in-Run.level c.in-Run.len c.in-Run.next = cut_told c.args.v _ c.args.octets.now c.loop-level.at _ _ _ (sym c.in-Run.is ∙ c.run_upto.ensures) in
-    let past : (0 < c.in-Run.len) × Upto c.args.v c.args.octets.now c.args.b c.in-Run.next (c.loop-level.bins + c.in-Run.len) = upto_next c.args.v c.args.octets.now c.args.b c.loop-level.at c.loop-level.bins c.loop-level.invariant.0 _ _ _ (run) in
+pub loop-run-smaller : goal.loop-run-smaller
+loop-run-smaller c =
+    let run : CutOff c.args.v c.args.octets.now c.loop-run.at (c.args.b - c.loop-run.bins) c.in-Some.run'.level c.in-Some.run'.len c.in-Some.run'.next = cut_told c.args.v _ c.args.octets.now c.loop-run.at _ (sym c.in-Some.is ∙ c.run_upto.ensures) in
+    let past : (0 < c.in-Some.run'.len) × Upto c.args.v c.args.octets.now c.args.b c.in-Some.run'.next (c.loop-run.bins + c.in-Some.run'.len) = upto_next c.args.v c.args.octets.now c.args.b c.loop-run.at c.loop-run.bins c.loop-run.invariant.0 _ _ _ (run) in
     omega (arith, (past).0, (run).wanted)
 
-pub loop-level-preserved : goal.loop-level-preserved
-loop-level-preserved c =
-    let run : CutOff c.args.v c.args.octets.now c.loop-level.at (c.args.b - c.loop-level.bins) c.in-Run.level c.in-Run.len c.in-Run.next = cut_told c.args.v _ c.args.octets.now c.loop-level.at _ _ _ (sym c.in-Run.is ∙ c.run_upto.ensures) in
-    let past : (0 < c.in-Run.len) × Upto c.args.v c.args.octets.now c.args.b c.in-Run.next (c.loop-level.bins + c.in-Run.len) = upto_next c.args.v c.args.octets.now c.args.b c.loop-level.at c.loop-level.bins c.loop-level.invariant.0 _ _ _ (run) in
+pub loop-run-preserved : goal.loop-run-preserved
+loop-run-preserved c =
+    let run : CutOff c.args.v c.args.octets.now c.loop-run.at (c.args.b - c.loop-run.bins) c.in-Some.run'.level c.in-Some.run'.len c.in-Some.run'.next = cut_told c.args.v _ c.args.octets.now c.loop-run.at _ (sym c.in-Some.is ∙ c.run_upto.ensures) in
+    let past : (0 < c.in-Some.run'.len) × Upto c.args.v c.args.octets.now c.args.b c.in-Some.run'.next (c.loop-run.bins + c.in-Some.run'.len) = upto_next c.args.v c.args.octets.now c.args.b c.loop-run.at c.loop-run.bins c.loop-run.invariant.0 _ _ _ (run) in
     let r = run in
     let p = past in
-    let len = run_len c.args.v c.args.octets.now c.loop-level.at in
-    let x = get_or c.args.octets.now c.loop-level.at 0 in
-    let to = c.loop-level.bins + c.in-Run.len in
-    let had = between c.args.a c.loop-level.bins ((levels c.args.v c.args.octets.now)) in
-    let n = (to - c.args.a) - (c.loop-level.bins - c.args.a) in
-    let size : length had ≡ c.loop-level.bins - c.args.a = length_between ((levels c.args.v c.args.octets.now)) c.args.a c.loop-level.bins c.loop-level.invariant.0.within in
+    let len = run_len c.args.v c.args.octets.now c.loop-run.at in
+    let x = get_or c.args.octets.now c.loop-run.at 0 in
+    let to = c.loop-run.bins + c.in-Some.run'.len in
+    let had = between c.args.a c.loop-run.bins ((levels c.args.v c.args.octets.now)) in
+    let n = (to - c.args.a) - (c.loop-run.bins - c.args.a) in
+    let size : length had ≡ c.loop-run.bins - c.args.a = length_between ((levels c.args.v c.args.octets.now)) c.args.a c.loop-run.bins c.loop-run.invariant.0.within in
     let lo : c.excess.result ≡ length had = c.excess.ensures ∙ sym size in
-    let on : c.loop-level.bins ≤ to = omega arith in
-    let whole : length had + n ≡ to - c.args.a = ap (λ (m : ℕ). m + n) size ∙ joined c.args.a c.loop-level.bins to on in
-    let hi : c.excess-in-Run.result ≡ length had + n = c.excess-in-Run.ensures ∙ sym whole in
-    let many : c.excess-in-Run.result - c.excess.result ≡ n = omega (arith, lo, hi) in
+    let on : c.loop-run.bins ≤ to = omega arith in
+    let whole : length had + n ≡ to - c.args.a = ap (λ (m : ℕ). m + n) size ∙ joined c.args.a c.loop-run.bins to on in
+    let hi : c.excess-in-Some.result ≡ length had + n = c.excess-in-Some.ensures ∙ sym whole in
+    let many : c.excess-in-Some.result - c.excess.result ≡ n = omega (arith, lo, hi) in
     let reading = c.reading_in-reading.ensures ∙ ap (reading_of c.args.product) r.is in
-    let grown = between_more ((levels c.args.v c.args.octets.now)) (drop (c.loop-level.bins + len) ((levels c.args.v c.args.octets.now))) c.args.marks.now c.args.a c.loop-level.bins to len x on (here_run c.args.v c.args.octets.now c.loop-level.at c.loop-level.bins (upto_stands _ _ _ _ _ c.loop-level.invariant.0 _ _ _ r) (upto_more _ _ _ _ _ c.loop-level.invariant.0 _ _ _ r)) (omega (arith, r.size)) in
+    let grown = between_more ((levels c.args.v c.args.octets.now)) (drop (c.loop-run.bins + len) ((levels c.args.v c.args.octets.now))) c.args.marks.now c.args.a c.loop-run.bins to len x on (here_run c.args.v c.args.octets.now c.loop-run.at c.loop-run.bins (upto_stands _ _ _ _ _ c.loop-run.invariant.0 _ _ _ r) (upto_more _ _ _ _ _ c.loop-run.invariant.0 _ _ _ r)) (omega (arith, r.size)) in
     let room : length had + n ≤ c.args.b - c.args.a = within c.args.a to c.args.b (length had + n) whole p.1.few in (
       p.1,
       c.put_reading.ensures.marks_after
-          ∙ (λ i. placed (c.loop-level.invariant.1 i) (lo i) (replicate (many i) (mark_of (reading i))))
+          ∙ (λ i. placed (c.loop-run.invariant.1 i) (lo i) (replicate (many i) (mark_of (reading i))))
           ∙ marks_run c.args.product x had c.args.marks.now n (omega (arith, room, c.requires.bins.room_marks))
           ∙ ap (λ (ls : List ℕ). updated (mark_at c.args.product) ls c.args.marks.now) (sym grown),
       c.put_reading.ensures.values_after
-          ∙ (λ i. placed (c.loop-level.invariant.2 i) (lo i) (replicate (numbered_to (reading i) (lo i) (hi i) - lo i) (number_of (reading i))))
+          ∙ (λ i. placed (c.loop-run.invariant.2 i) (lo i) (replicate (numbered_to (reading i) (lo i) (hi i) - lo i) (number_of (reading i))))
           ∙ values_run c.args.product x had c.args.values.now n (omega (arith, room, c.requires.bins.room_values))
           ∙ ap (λ (ls : List ℕ). updated (held_at c.args.product) ls c.args.values.now) (sym grown),
     )
 
-pub shape_of-marks-in-End : goal.shape_of-marks-in-End
-shape_of-marks-in-End c =
-    let size-marks : length c.loop-level.marks ≡ length c.args.marks.now = ap length c.loop-level.invariant.1 ∙ updated_length _ _ _ in
+pub shape_of-marks : goal.shape_of-marks
+shape_of-marks c =
+    let size-marks : length c.loop-run.marks ≡ length c.args.marks.now = ap length c.loop-run.invariant.1 ∙ updated_length _ _ _ in
     size-marks
 
-pub shape_of-values-in-End : goal.shape_of-values-in-End
-shape_of-values-in-End c =
-    let size-values : length c.loop-level.values ≡ length c.args.values.now = ap length c.loop-level.invariant.2 ∙ updated_length _ _ _ in
+pub shape_of-values : goal.shape_of-values
+shape_of-values c =
+    let size-values : length c.loop-run.values ≡ length c.args.values.now = ap length c.loop-run.invariant.2 ∙ updated_length _ _ _ in
     size-values
 
-pub returns-in-End : goal.returns-in-End
+pub returns : goal.returns
 unfolding marks_of values_of
-returns-in-End c = let all = upto_all c.args.v c.args.octets.now c.args.b c.loop-level.at c.loop-level.bins c.loop-level.invariant.0 (sym c.in-End.is ∙ c.run_upto.ensures) c.requires.bins.given in record { marks_after = c.loop-level.invariant.1 ∙ ap (λ (n : ℕ). updated (mark_at c.args.product) (between c.args.a n ((levels c.args.v c.args.octets.now))) c.args.marks.now) all; values_after = c.loop-level.invariant.2 ∙ ap (λ (n : ℕ). updated (held_at c.args.product) (between c.args.a n ((levels c.args.v c.args.octets.now))) c.args.values.now) all }
+returns c = let all = upto_all c.args.v c.args.octets.now c.args.b c.loop-run.at c.loop-run.bins c.loop-run.invariant.0 (sym c.in_default.is ∙ c.run_upto.ensures) c.requires.bins.given in record { marks_after = c.loop-run.invariant.1 ∙ ap (λ (n : ℕ). updated (mark_at c.args.product) (between c.args.a n ((levels c.args.v c.args.octets.now))) c.args.marks.now) all; values_after = c.loop-run.invariant.2 ∙ ap (λ (n : ℕ). updated (held_at c.args.product) (between c.args.a n ((levels c.args.v c.args.octets.now))) c.args.values.now) all }

@@ -1,31 +1,19 @@
 -- Size, section 0, then the sections: the three ways of `verdict`.
+use Rattle.sections.proofs.Checking.{failed, held}
 use Rattle.sections.specs.Verdict.{sized, verdict_by}
 use Rattle.walks.specs.Answer.{answer_for}
-use mathlib.Core.Bool.{and-false}
-use borrow.Author.Tests.{lt-leb, le-leb}
-use lib.ListN.{length}
-use mathlib.Core.Path.{sym, ◌∙◌, ap}
-use Rattle.walks.specs.declared.Walked.TheVariants.{Refused}
 use Rattle.walks.proofs.walk_as.Goals as goal
 
-pub returns-then-n-lt20 : goal.returns-then-n-lt20
+pub returns-in_err-check : goal.returns-in_err-check
 unfolding verdict_by sized answer_for
-returns-then-n-lt20 c =
-    rw (lt-leb 20 (length c.args.s.now) c.if-n-lt20.true) (ap Refused c.refuse.ensures)
+returns-in_err-check c = let f = failed _ _ _ c.check.ensures _ c.in_err-check.was c.from_residual.ensures.1 in rw f.0 f.1
 
-pub returns-then-n-gt8388608 : goal.returns-then-n-gt8388608
+pub returns-in_err-check-2 : goal.returns-in_err-check-2
 unfolding verdict_by sized answer_for
-returns-then-n-gt8388608 c =
-    rw (lt-leb (length c.args.s.now) 8388608 c.if-n-gt8388608.true, and-false) (ap Refused c.refuse-then-n-gt8388608.ensures)
-
-pub returns-then-fields0 : goal.returns-then-fields0
-unfolding verdict_by sized
-returns-then-fields0 c =
-    let n = length c.args.s.now in
-    rw (le-leb 20 n c.if-n-lt20.false, le-leb n 8388608 c.if-n-gt8388608.false, sym c.fields0.ensures ∙ c.if-fields0.true) (c.ended_as.ensures ∙ c.walk_to.ensures)
+returns-in_err-check-2 c =
+    let f = failed _ _ _ c.check-2.ensures _ c.in_err-check-2.was c.from_residual-in_err-check-2.ensures.1 in
+    rw (held _ _ _ c.check.ensures c.in_ok-check.was, ← c.fields0.ensures, f.0) f.1
 
 pub returns : goal.returns
-unfolding verdict_by sized answer_for
-returns c =
-    let n = length c.args.s.now in
-    rw (le-leb 20 n c.if-n-lt20.false, le-leb n 8388608 c.if-n-gt8388608.false, sym c.fields0.ensures ∙ c.if-fields0.false) (ap Refused c.refuse-2.ensures)
+unfolding verdict_by sized
+returns c = rw (held _ _ _ c.check.ensures c.in_ok-check.was, ← c.fields0.ensures, held _ _ _ c.check-2.ensures c.in_ok-check-2.was) c.walk_to.ensures

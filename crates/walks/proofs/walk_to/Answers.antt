@@ -1,28 +1,27 @@
 -- The loop's invariant is `Along` (Along.antt): the state mirrors the history, and the verdict from here on is the whole verdict.
+use Rattle.octets.proofs.Exits.{passed_on}
 use Rattle.walks.proofs.Along.{along_start, along_next, along_done, along_refused, further}
-use Rattle.walks.specs.Walk.{ended_as}
 use Rattle.walks.proofs.Ready.{sound}
 use native.Mathlib.Omega.{arith}
-use mathlib.Core.Path.{sym, ◌∙◌}
+use mathlib.Core.Path.{sym, ◌∙◌, ap}
 use Rattle.walks.proofs.walk_to.Goals as goal
+use Rattle.std.specs.Prelude.{Ok}
 
-pub loop-refusal-init : goal.loop-refusal-init
-loop-refusal-init c = along_start _ _ _ _ c.requires.0 c.requires.1
+pub loop-next-init : goal.loop-next-init
+loop-next-init c = along_start _ _ _ _ c.requires.0 c.requires.1
 
 pub one_step-requires : goal.one_step-requires
-one_step-requires c = sound _ _ _ _ _ _ c.loop-refusal.invariant
+one_step-requires c = sound _ _ _ _ _ _ c.loop-next.invariant
 
-pub returns-in-Done : goal.returns-in-Done
-unfolding ended_as
-returns-in-Done c = along_done _ _ _ _ _ _ c.loop-refusal.invariant (sym c.one_step.ensures ∙ c.in-Done.is)
+pub returns-in_err-next : goal.returns-in_err-next
+returns-in_err-next c = passed_on _ _ c.from_residual.ensures.1 ∙ along_refused _ _ _ _ _ _ c.loop-next.invariant _ (sym c.one_step.ensures ∙ c.in_err-next.was)
 
-pub returns-in-Refused : goal.returns-in-Refused
-unfolding ended_as
-returns-in-Refused c = along_refused _ _ _ _ _ _ c.loop-refusal.invariant _ (sym c.one_step.ensures ∙ c.in-Refused.is)
-
-pub loop-refusal-smaller : goal.loop-refusal-smaller
-loop-refusal-smaller c = let f = further _ _ _ _ _ _ c.loop-refusal.invariant c.in-Next.next (sym c.one_step.ensures ∙ c.in-Next.is) in
+pub loop-next-smaller : goal.loop-next-smaller
+loop-next-smaller c = let f = further _ _ _ _ _ _ c.loop-next.invariant c.in-Some.next (sym c.one_step.ensures ∙ c.in_ok-next.was ∙ ap Ok c.in-Some.is) in
     omega arith
 
-pub loop-refusal-preserved : goal.loop-refusal-preserved
-loop-refusal-preserved c = rw c.chosen_after-chosen.ensures (along_next _ _ _ _ _ _ c.loop-refusal.invariant c.in-Next.next (sym c.one_step.ensures ∙ c.in-Next.is))
+pub loop-next-preserved : goal.loop-next-preserved
+loop-next-preserved c = rw c.chosen_after-chosen.ensures (along_next _ _ _ _ _ _ c.loop-next.invariant c.in-Some.next (sym c.one_step.ensures ∙ c.in_ok-next.was ∙ ap Ok c.in-Some.is))
+
+pub returns : goal.returns
+returns c = along_done _ _ _ _ _ _ c.loop-next.invariant (sym c.one_step.ensures ∙ c.in_ok-next.was ∙ ap Ok c.in_default.is)

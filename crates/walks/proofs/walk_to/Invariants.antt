@@ -4,8 +4,8 @@ use Rattle.walks.specs.Formats.{own_of}
 use Prim.Native.Nat.{◌-◌}
 use Rattle.walks.proofs.walk_to.Given as goal
 
-abbrev pub invariant-loop-refusal : goal.invariant-loop-refusal
-invariant-loop-refusal l = Along (own_of l.format) l.s l.end l.want l.st l.chosen
+abbrev pub invariant-loop-next : goal.invariant-loop-next
+invariant-loop-next l = Along (own_of l.format) l.s l.end l.want l.st l.chosen
 
-abbrev pub decreases-loop-refusal : goal.decreases-loop-refusal
-decreases-loop-refusal l = l.end - l.st.at
+abbrev pub decreases-loop-next : goal.decreases-loop-next
+decreases-loop-next l = l.end - l.st.at
