@@ -1,4 +1,4 @@
-use Prim.Native.Nat.{ℕ, ◌+◌, ◌-◌, ◌*◌, ◌≤◌, ◌<◌}
+use Prim.Native.Nat.{ℕ, ◌+◌, ◌*◌, ◌≤◌, ◌<◌}
 use mathlib.Core.Path.{◌≡◌}
 use lib.ListN.{length, get_or}
 use Rattle.sums.specs.Inner.{total, behind}
@@ -11,6 +11,3 @@ invariant-loop-j l = (l.j ≤ 256)
     × (l.sum ≡ total (λ i. behind l.v (get_or l.octets i 0) (get_or l.initial.row (i + 1) 0)) l.j)
     × ((i : ℕ) → i < l.j → get_or l.row i 0 ≡ behind l.v (get_or l.octets i 0) (get_or l.initial.row (i + 1) 0))
     × ((i : ℕ) → l.j ≤ i → get_or l.row i 0 ≡ get_or l.initial.row i 0)
-
-abbrev pub decreases-loop-j : goal.decreases-loop-j
-decreases-loop-j l = 256 - l.j
