@@ -128,6 +128,7 @@ fn put_reading(reading: Reading, lo: usize, hi: usize, marks: &mut [u8], values:
 
 // The readings of the bins a up to b of what the octets give, from their front on, run by run, however long their runs are: their marks at the front of `marks`,
 // and their numbers in `values`.
+// Not inlined: in `readings_into` the walk to the ray made the ray values of a cut of noise take a third longer (5.4 ms for 4.0).
 #[inline(never)]
 pub fn readings_from(
     product: Product,
