@@ -24,7 +24,7 @@ second (x ∷ y ∷ w) v n long = refl
 
 module _ (row lent lent' answer answer' : List ℕ) (long : 2 ≤ length answer) (u : ℕ) (t : List ℕ) (small : (i : ℕ) → get_or t i 0 < 256) (back : levels u t ≡ row) where
   by_answer : (a : Result Wrote WriteRefusal) → a ≡ write_answer (length lent) row → 0 ≡ write_return a → lent' ≡ write_out a (packed row) lent → get_or (write_words a answer) 1 0 ≤ length t
-  by_answer (Ok (record { v = v; len = n })) e is held = omega (arith, second answer v n long, no_shorter {s = row} {d = lent} {out = lent'} {v = v} {n = n} (record { answered = e; held = held }) u t small back)
+  by_answer (Ok w) e is held = omega (arith, second answer w.v w.len long, no_shorter {s = row} {d = lent} {out = lent'} {v = w.v} {n = w.len} (record { answered = e; held = held }) u t small back)
   by_answer (Err G.Argument) e is held = absurd (omega arith)
   by_answer (Err G.Room) e is held = absurd (omega arith)
 

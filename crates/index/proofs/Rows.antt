@@ -1,10 +1,11 @@
 -- The row of records, as it is filled: i records are laid at its front, and the walk has n - i rays to come.
 use Prim.Native.Nat.{ℕ, suc, ◌+◌, ◌-◌, ◌*◌, ◌≤◌, ◌<◌}
 use mathlib.Core.Path.{◌≡◌, refl, sym, ap, subst, ◌∙◌}
-use mathlib.Core.List.{List}
+use mathlib.Core.List.{List, ◌++◌, append-nil}
 use native.Mathlib.Omega.{arith}
 use native.Mathlib.Nat.{suc-mul}
-use lib.ListN.{length, take, drop, set, length-append, length-drop}
+use lib.ListN.{length, take, drop, set, length-append, length-drop, drop_of_length-le}
+use lib.Seq.{length-take-le}
 use Rattle.runs.specs.Run.{levels}
 use Rattle.lent.specs.Lent.{front}
 use Rattle.index.specs.declared.RayRecord.{RayRecord}
@@ -89,3 +90,11 @@ module _ (s : List ℕ) (p₀ : Pace) (ys : List RayRecord) where
       (λ j. set (laid i) (sym size j) (rec j))
       ∙ front_put rows ys (record_of p₀.v (data_in s p₀) 0 (p₀.bin + i * p₀.nb)) (omega (arith, size))
       ∙ ap (λ (l : List RayRecord). front l ys) (sym (records_more p₀.nb p₀.v (data_in s p₀) i p₀.bin) ∙ ap (λ (m : ℕ). records m p₀.nb p₀.v (data_in s p₀) p₀.bin) one)
+
+-- what is laid in the part of a row that it fills, and the rest of the row
+pub laid_front : (s : List ℕ) (p₀ : Pace) (row : List RayRecord) (n : ℕ) → n ≤ length row → laid s p₀ (take n row) n ++ drop n row ≡ laid s p₀ row n
+laid_front s p₀ row n h =
+    let rows : List RayRecord = records n p₀.nb p₀.v (data_in s p₀) p₀.bin in
+    let size = length_records p₀.nb p₀.v (data_in s p₀) n p₀.bin in
+    let none = drop_of_length-le (take n row) (omega (arith, size, length-take-le n row h)) in
+    ap (λ (l : List RayRecord). (rows ++ l) ++ drop n row) none ∙ ap (λ (l : List RayRecord). l ++ drop n row) (append-nil rows) ∙ ap (λ (m : ℕ). rows ++ drop m row) (sym size)

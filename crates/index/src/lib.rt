@@ -197,10 +197,8 @@ pub fn lay(octets: &[u8], start: Pace, n: usize, row: &mut [RayRecord])
     ensures { row.new ≡ front (records n start.nb start.v (data_in octets.now start) start.bin) row.old }
 {
     let mut p = start;
-    let mut i: usize = 0;
-    while i < n {
+    for slot in &mut row[..n] {
         p = next_ray(octets, p);
-        row[i] = p.rec;
-        i += 1;
+        *slot = p.rec;
     }
 }

@@ -15,12 +15,6 @@ ghost use Rattle.lines.specs.Words.{entry_in, entries_in};
 // How many octets the line of an entry may take.
 pub const ENTRY_ROOM: usize = 82;
 
-fn as_usize(x: u32) -> usize
-    ensures { result ≡ x }
-{
-    x as usize
-}
-
 // A number in decimal, the digits before the last first.
 fn put_decimal(out: &mut [u8], at: usize, n: usize) -> usize
     requires { at + length (decimal n) ≤ length out.old }
@@ -60,7 +54,7 @@ fn put_word(out: &mut [u8], at: usize, name: &[u8], words: &[u32], k: usize) -> 
     ensures put { Put out.old at (name.now ++ decimal (get_or words.now k 0)) out.new result }
     ensures upper_bound { result ≤ at + length name.now + 20 }
 {
-    put_named(out, at, name, as_usize(words[k]))
+    put_named(out, at, name, words[k] as usize)
 }
 
 // The word of the kind that a number stands for, and the end of its line. A number that is no kind's has no word.
@@ -96,12 +90,8 @@ pub fn put_entries(out: &mut [u8], at: usize, words: &[u32], first: usize, count
     ensures { Put out.old at (entry_lines (entries_in words.now first count)) out.new result }
 {
     let mut to = at;
-    let mut i = first;
-    let mut left = count;
-    while left != 0 {
+    for i in first..first + count {
         to = put_entry(out, to, words, i);
-        i += 1;
-        left -= 1;
     }
     to
 }

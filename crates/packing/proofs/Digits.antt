@@ -6,7 +6,8 @@ use native.Mathlib.Nat.{div-lt_self}
 use native.Mathlib.Decide.{ℕ_discrete}
 use native.Mathlib.Omega.{arith}
 use lib.ListN.{length-append, length, drop, get_or, length-map, drop_of_length-le}
-use lib.Seq.{drop-cons, take_all}
+use Rattle.std.specs.List.{fold, reduce}
+use Rattle.std.specs.Option.{unwrap_or}
 use borrow.Author.Tests.{eq-eqb, ne_eqb}
 use Rattle.runs.specs.Run.{base}
 use Rattle.packing.specs.Write.{greatest, digits_up_to, digits_of, code, on_from, written}
@@ -96,11 +97,14 @@ pub greatest_nil : greatest [] ≡ 0
 unfolding greatest
 greatest_nil = refl
 
-pub greatest_at_lem : (row : List ℕ) (i : ℕ) → i < length row → greatest (drop i row) ≡ max (get_or row i 0) (greatest (drop (i + 1) row))
-greatest_at_lem row i h = ap greatest (drop_here row i h) ∙ greatest_cons (get_or row i 0) (drop (i + 1) row)
+greatest_fold : (m : ℕ) (s : List ℕ) → fold max m s ≡ max m (greatest s)
+greatest_fold m [] = omega (arith, greatest_nil)
+greatest_fold m (x ∷ s) = omega (arith, greatest_fold (max m x) s, greatest_cons x s)
 
-pub greatest_end : (row : List ℕ) (i : ℕ) → length row ≤ i → greatest (drop i row) ≡ 0
-greatest_end row i h = ap greatest (drop_of_length-le row h) ∙ greatest_nil
+-- the greatest of some levels, or 0
+pub greatest_picked : (s : List ℕ) → unwrap_or (reduce max s) 0 ≡ greatest s
+greatest_picked [] = sym greatest_nil
+greatest_picked (x ∷ s) = greatest_fold x s ∙ sym (greatest_cons x s)
 
 pub on_from_nil : (v x k : ℕ) → on_from v x k [] ≡ code v x k
 unfolding on_from
@@ -134,11 +138,9 @@ pub written_nil : (v : ℕ) → written v [] ≡ []
 unfolding written
 written_nil v = refl
 
-pub written_start : (v : ℕ) (row : List ℕ) → 0 < length row → written v row ≡ on_from v (get_or row 0 0) 0 (drop 1 row)
-written_start v row h = ap (λ (s : List ℕ). written v s) (drop-cons row 0 0 h) ∙ written_cons v (get_or row 0 0) (drop 1 row)
-
 pub written_empty : (v : ℕ) (row : List ℕ) → length row ≡ 0 → written v row ≡ []
-written_empty v row h = ap (λ (s : List ℕ). written v s) (sym (take_all 0 row (omega arith))) ∙ written_nil v
+written_empty v [] h = written_nil v
+written_empty v (x ∷ row) h = absurd (omega arith)
 
 -- ---- the octets are no more than the levels
 on_from_short : (v : ℕ) (s : List ℕ) (x k : ℕ) → length (on_from v x k s) ≤ k + 1 + length s

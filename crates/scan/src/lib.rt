@@ -79,12 +79,11 @@ fn by_blocks(octets: &[u8], v: u8, n: usize) -> Far
     }
     let mut row = [0u8; sums::ROW];
     while sums::BLOCK <= octets.len() - at {
-        let front = sums::count_front(&octets[at..], v, &mut row);
-        if front.octets == 0 {
-            return Far { at, left };
-        }
+        let Some(front) = sums::count_front(&octets[at..], v, &mut row) else {
+            break;
+        };
         if left < front.bins {
-            return Far { at, left };
+            break;
         }
         at += front.octets;
         left -= front.bins;

@@ -1,9 +1,7 @@
 // The published values in hundredths, as constant tables; what a level is (missing, or a number), its mark, value and kind; the readings
 // of a row of bins, run by run; and section 5's table, octet for octet. It stands on `runs`, and its laws on `octets` (sign and magnitude) and
 // `fraction` (a value as a float); `base_format` judges section 5 with it, `cuts` and `stretches` take readings and kinds from it.
-//
-// A constant table that a loop indexes is laid out anew at each use. So whatever loops over levels is lent the table as a slice,
-// and one function on the product above it has the table and lends it.
+// The table of a product stands in memory once, and one function lends it (src/tables.rt).
 #![tactic(auto)]
 
 ghost use Rattle.std.specs.Prelude.{◌≡◌, ◌≤◌, ◌<◌, ◌-◌, length, replicate};
@@ -46,26 +44,13 @@ pub fn level_count(product: Product) -> usize
     }
 }
 
-// The value of a level above 0, from the product's table.
-fn value_in(product: Product, table: &[i16], level: u8) -> i32
-    requires table_value { table.now ≡ table_of product }
-    requires le_level { (1 ≤ level) × (level ≤ level_count product) }
+// The value of a level above 0.
+fn value_in(product: Product, level: u8) -> i32
+    requires { (1 ≤ level) × (level ≤ level_count product) }
     ensures { result ≡ published product level }
 {
-    let n = level as usize;
-    table[n - 1] as i32
-}
-
-// What a level tells, from the product's table.
-fn reading_in(product: Product, table: &[i16], level: u8) -> Reading
-    requires table_value { table.now ≡ table_of product }
-    requires level_bound { level ≤ level_count product }
-    ensures { result ≡ reading_of product level }
-{
-    if level == 0 {
-        return Reading::Missing;
-    }
-    Reading::Number(value_in(product, table, level))
+    let table = tables::table_of(product);
+    table[level as usize - 1] as i32
 }
 
 // What a level tells.
@@ -73,16 +58,10 @@ pub fn reading_of(product: Product, level: u8) -> Reading
     requires { level ≤ level_count product }
     ensures { result ≡ reading_of product level }
 {
-    match product {
-        Product::Reflectivity => {
-            let table = tables::reflectivity_table();
-            reading_in(product, &table, level)
-        }
-        Product::Velocity => {
-            let table = tables::velocity_table();
-            reading_in(product, &table, level)
-        }
+    if level == 0 {
+        return Reading::Missing;
     }
+    Reading::Number(value_in(product, level))
 }
 
 // 0 missing, 1 measured.
@@ -125,36 +104,15 @@ fn kind_of(reading: Reading, t: i32) -> Kind
     }
 }
 
-// The number of each level's kind, from the product's table.
-fn kinds_in(product: Product, table: &[i16], t: i32) -> [u32; 256]
-    requires { table.now ≡ table_of product }
-    ensures { KindsBy product t result }
-{
-    let m = table.len();
-    let mut numbers = [0u32; 256];
-    let mut level: usize = 0;
-    while level <= m {
-        let reading = reading_in(product, table, level as u8);
-        numbers[level] = kinds::number_of(kind_of(reading, t));
-        level += 1;
-    }
-    numbers
-}
-
 // The number of each level's kind, for whatever has many levels to tell the kind of.
 pub fn kinds_by(product: Product, t: i32) -> [u32; 256]
     ensures { KindsBy product t result }
 {
-    match product {
-        Product::Reflectivity => {
-            let table = tables::reflectivity_table();
-            kinds_in(product, &table, t)
-        }
-        Product::Velocity => {
-            let table = tables::velocity_table();
-            kinds_in(product, &table, t)
-        }
+    let mut numbers = [0u32; 256];
+    for level in 0..=level_count(product) {
+        numbers[level] = kinds::number_of(kind_of(reading_of(product, level as u8), t));
     }
+    numbers
 }
 
 // A reading from lo up to hi of a ray: its mark in each place, and its number where it has one.
@@ -167,40 +125,10 @@ fn put_reading(reading: Reading, lo: usize, hi: usize, marks: &mut [u8], values:
     lent::stamp_number(values, lo, numbered_to(reading, lo, hi), number_of(reading));
 }
 
-// The bins a up to b of what the octets give, run by run, however long their runs are: their marks at the front of `marks`, and their numbers in `values`.
-fn readings_in(
-    product: Product,
-    table: &[i16],
-    octets: &[u8],
-    v: u8,
-    a: usize,
-    b: usize,
-    marks: &mut [u8],
-    values: &mut [i32],
-)
-    requires table_value { table.now ≡ table_of product }
-    requires bins { Bins product v a b octets.now (length marks.old) (length values.old) }
-    ensures marks_after { marks.new ≡ marks_of product (between a b (levels v octets.now)) marks.old }
-    ensures values_after { values.new ≡ values_of product (between a b (levels v octets.now)) values.old }
-{
-    let mut at: usize = 0;
-    let mut bins: usize = 0;
-    while let Some(run) = runs::run_upto(octets, v, at, b - bins) {
-        let reading = reading_in(product, table, run.level);
-        let to = bins + run.len;
-        put_reading(
-            reading,
-            runs::excess(bins, a),
-            runs::excess(to, a),
-            marks,
-            values,
-        );
-        bins = to;
-        at = run.next;
-    }
-}
-
-// The readings of the bins a up to b of what the octets give, from their front on.
+// The readings of the bins a up to b of what the octets give, from their front on, run by run, however long their runs are: their marks at the front of `marks`,
+// and their numbers in `values`.
+// Not inlined: in `readings_into` the walk to the ray made the ray values of a cut of noise take a third longer (5.4 ms for 4.0).
+#[inline(never)]
 pub fn readings_from(
     product: Product,
     octets: &[u8],
@@ -214,15 +142,20 @@ pub fn readings_from(
     ensures marks_after { marks.new ≡ marks_of product (between a b (levels v octets.now)) marks.old }
     ensures values_after { values.new ≡ values_of product (between a b (levels v octets.now)) values.old }
 {
-    match product {
-        Product::Reflectivity => {
-            let table = tables::reflectivity_table();
-            readings_in(product, &table, octets, v, a, b, marks, values)
-        }
-        Product::Velocity => {
-            let table = tables::velocity_table();
-            readings_in(product, &table, octets, v, a, b, marks, values)
-        }
+    let mut at: usize = 0;
+    let mut bins: usize = 0;
+    while let Some(run) = runs::run_upto(octets, v, at, b - bins) {
+        let reading = reading_of(product, run.level);
+        let to = bins + run.len;
+        put_reading(
+            reading,
+            runs::excess(bins, a),
+            runs::excess(to, a),
+            marks,
+            values,
+        );
+        bins = to;
+        at = run.next;
     }
 }
 
@@ -290,37 +223,15 @@ fn right_in(octets: &[u8], table: &[i16]) -> bool
         return false;
     }
     let mut right = true;
-    let mut i = 0;
-    while i < m {
+    for i in 0..m {
         right = right & pair_right(octets[2 * i], octets[2 * i + 1], table[i]);
-        i += 1;
     }
     right
-}
-
-// The same of a longer table, in two parts: a compiler writes out a loop of 128 pairs turn by turn, and then compares with constants and lays out no table.
-fn right_in_parts(octets: &[u8], table: &[i16]) -> bool
-    requires { (128 ≤ length table.now) × InTwoOctets table.now }
-    ensures { result ≡ same octets.now (octets_of table.now) }
-{
-    if octets.len() < 256 {
-        return false;
-    }
-    right_in(&octets[..256], &table[..128]) & right_in(&octets[256..], &table[128..])
 }
 
 // Whether octets are the product's published table, octet for octet.
 pub fn table_right(octets: &[u8], product: Product) -> bool
     ensures { result ≡ table_right octets.now product }
 {
-    match product {
-        Product::Reflectivity => {
-            let table = tables::reflectivity_table();
-            right_in_parts(octets, &table)
-        }
-        Product::Velocity => {
-            let table = tables::velocity_table();
-            right_in_parts(octets, &table)
-        }
-    }
+    right_in(octets, tables::table_of(product))
 }

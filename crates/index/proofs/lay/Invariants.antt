@@ -1,13 +1,10 @@
--- After i turns i records are laid at the row's front, and the walk has n - i rays to come (proofs/Rows.antt).
-use Rattle.std.proofs.Common.{◌≡◌, ◌-◌}
+-- After i turns i records are laid at the front of the part of the row that is filled, and the walk has n - i rays to come (proofs/Rows.antt).
+use Rattle.std.proofs.Common.{◌≡◌, take}
 use Rattle.index.proofs.Rows.{After, laid}
 use Rattle.index.proofs.lay.Given as goal
 
-abbrev pub invariant-loop-i : goal.invariant-loop-i
-invariant-loop-i l = record {
-  come : After l.octets l.fn.start l.n l.i l.p;
-  row_laid : l.row ≡ laid l.octets l.fn.start l.fn.row l.i;
+abbrev pub invariant-loop-slot : goal.invariant-loop-slot
+invariant-loop-slot l = record {
+  come : After l.octets l.fn.start l.n l.slot-index l.p;
+  row_laid : l.slot-items ≡ laid l.octets l.fn.start (take l.n l.fn.row) l.slot-index;
 }
-
-abbrev pub decreases-loop-i : goal.decreases-loop-i
-decreases-loop-i l = l.n - l.i

@@ -1,16 +1,15 @@
--- `greatest_of` meets its contract: the greatest so far and that of the levels to come make the greatest of all.
-use native.Mathlib.Omega.{arith}
-use Rattle.packing.proofs.Digits.{greatest_at_lem, greatest_end}
+-- `greatest_of` meets its contract: the greatest that a pass picks is the greatest by the definition.
+use Rattle.std.proofs.Common.{ℕ, sym, ap, ◌∙◌}
+use Rattle.std.specs.Option.{unwrap_or}
+use Rattle.std.specs.declared.option.Option.{Option}
+use Rattle.std.proofs.lemmas.Iterator.{YieldsList-from_slice}
+use Rattle.std.proofs.lemmas.Iterator.Adapters.{option_map_id}
+use Rattle.std.proofs.lemmas.Iterator.Consumers.{max_from_yields_List, YieldsList-from_copied}
+use Rattle.packing.proofs.Digits.{greatest_picked}
 use Rattle.packing.proofs.greatest_of.Goals as goal
 
-pub loop-i-init : goal.loop-i-init
-loop-i-init c = (omega arith, omega arith)
-
-pub loop-i-preserved-then-m-x : goal.loop-i-preserved-then-m-x
-loop-i-preserved-then-m-x c = (omega arith, omega (arith, c.loop-i.invariant.1, greatest_at_lem c.args.levels.now c.loop-i.i (omega arith)))
-
-pub loop-i-preserved : goal.loop-i-preserved
-loop-i-preserved c = (omega arith, omega (arith, c.loop-i.invariant.1, greatest_at_lem c.args.levels.now c.loop-i.i (omega arith)))
-
 pub returns : goal.returns
-returns c = omega (arith, c.loop-i.invariant.1, greatest_end c.args.levels.now c.loop-i.i (omega arith))
+returns c =
+    let road = YieldsList-from_copied (YieldsList-from_slice c.args.levels.now cc) in
+    let picked = sym (option_map_id _) ∙ max_from_yields_List c.copied.result _ c.max.ensures.ran road in
+    c.unwrap_or.ensures ∙ ap (λ (o : Option ℕ). unwrap_or o 0) picked ∙ greatest_picked c.args.levels.now

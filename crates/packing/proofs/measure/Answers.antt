@@ -1,36 +1,47 @@
 -- `measure` meets its contract: what is counted, and the octets that the run in hand and the levels to come take, make all.
-use Prim.Native.Nat.{◌+◌, ◌-◌}
-use mathlib.Core.Path.{sym, ap}
-use native.Mathlib.Omega.{arith}
-use lib.ListN.{length, get_or, drop, length-append}
-use Rattle.packing.specs.Write.{code, on_from}
-use Rattle.packing.proofs.Digits.{digits_short, code_length, on_same, on_other, on_end, written_start, written_empty}
+use Rattle.std.proofs.Common.{ℕ, sym, ap, arith, length, get_or, drop, ◌+◌, ◌-◌, ◌≡◌, List}
+use Rattle.std.proofs.Math.ListN.{length-append}
+use Rattle.packing.specs.Write.{code, on_from, written}
+use Rattle.packing.proofs.Digits.{digits_short, code_length, on_same, on_other, on_end, written_cons, written_empty}
 use Rattle.packing.proofs.measure.Goals as goal
+use Rattle.packing.proofs.measure.Goals.{then-y-x, else-y-x}
 
-pub returns-then-levels-eq0 : goal.returns-then-levels-eq0
-returns-then-levels-eq0 c = sym (ap length (written_empty c.args.v c.args.levels.now c.if-levels-eq0.true))
+pub returns-in_default : goal.returns-in_default
+returns-in_default c = sym (ap length (written_empty c.args.v c.args.levels.now c.in_default.ensures.cases))
 
-pub loop-i-init : goal.loop-i-init
-loop-i-init c = (omega arith, omega arith, omega (arith, ap length (written_start c.args.v c.args.levels.now (omega arith))))
-
-pub loop-i-preserved-then-y-x : goal.loop-i-preserved-then-y-x
-loop-i-preserved-then-y-x c = (omega arith, omega arith, omega (arith, c.loop-i.invariant.2, ap length (on_same c.args.v c.loop-i.x c.loop-i.k c.args.levels.now c.loop-i.i (omega arith) c.if-y-x.true)))
+pub loop-y-init : goal.loop-y-init
+loop-y-init c =
+    let start = ap (λ (s : List ℕ). length (written c.args.v s)) c.in-Some.ensures.cases.0 in
+    (omega arith, omega (arith, start, ap length (written_cons c.args.v c.in-Some.field-0-0.now c.in-Some.rest.now)))
 
 pub overflow_add-total : goal.overflow_add-total
-overflow_add-total c = record { fits = omega (arith, c.digit_count.ensures, digits_short (255 - c.args.v) c.loop-i.k) }
+overflow_add-total c = record { fits = omega (arith, c.in-Some.ensures.cases.1, digits_short (255 - c.args.v) c.loop-y.k) }
 
 pub overflow_add-total-else-y-x : goal.overflow_add-total-else-y-x
-overflow_add-total-else-y-x c = record { fits = omega (arith, c.digit_count.ensures, digits_short (255 - c.args.v) c.loop-i.k) }
+overflow_add-total-else-y-x c = record { fits = omega (arith, c.in-Some.ensures.cases.1, digits_short (255 - c.args.v) c.loop-y.k) }
 
-pub loop-i-preserved : goal.loop-i-preserved
-loop-i-preserved c = let y = get_or c.args.levels.now c.loop-i.i 0 in (
-  omega arith,
-  omega (arith, c.digit_count.ensures, digits_short (255 - c.args.v) c.loop-i.k),
-  omega (arith, c.loop-i.invariant.2, c.digit_count.ensures, digits_short (255 - c.args.v) c.loop-i.k, ap length (on_other c.args.v c.loop-i.x c.loop-i.k c.args.levels.now c.loop-i.i (omega arith) c.if-y-x.false), length-append (code c.args.v c.loop-i.x c.loop-i.k) (on_from c.args.v y 0 (drop (c.loop-i.i + 1) c.args.levels.now)), code_length c.args.v c.loop-i.x c.loop-i.k),
-)
+pub loop-y-preserved : goal.loop-y-preserved
+loop-y-preserved c =
+    let v = c.args.v in
+    let rest = c.in-Some.rest.now in
+    let i = c.loop-y.y-index in
+    let x = c.loop-y.x in
+    let k = c.loop-y.k in
+    let y = get_or rest i 0 in
+    let left = drop (i + 1) rest in
+    elim c.if-y-x.branch [
+      | then-y-x w ↦
+          let now : length (on_from v c.if-y-x.x c.if-y-x.k left) ≡ length (on_from v x (k + 1) left) = cc (w.x-is, w.k-is) in
+          (omega arith, omega (arith, now, c.loop-y.invariant.1, ap length (on_same v x k rest i c.loop-y-test.true w.if-y-x.true)))
+      | else-y-x w ↦
+          let now : length (on_from v c.if-y-x.x c.if-y-x.k left) ≡ length (on_from v y 0 left) = cc (w.x-is, w.k-is) in
+          let short = digits_short (255 - v) k in
+          (omega (arith, short, w.digit_count.ensures), omega (arith, now, short, c.loop-y.invariant.1, w.digit_count.ensures, ap length (on_other v x k rest i c.loop-y-test.true w.if-y-x.false), length-append (code v x k) (on_from v y 0 left), code_length v x k))
+    ]
 
 pub overflow_add-result-2 : goal.overflow_add-result-2
-overflow_add-result-2 c = record { fits = omega (arith, c.digit_count-2.ensures, digits_short (255 - c.args.v) c.loop-i.k) }
+overflow_add-result-2 c = record { fits = omega (arith, c.in-Some.ensures.cases.1, digits_short (255 - c.args.v) c.loop-y.k) }
 
 pub returns : goal.returns
-returns c = omega (arith, c.loop-i.invariant.2, c.digit_count-2.ensures, ap length (on_end c.args.v c.loop-i.x c.loop-i.k c.args.levels.now c.loop-i.i (omega arith)), code_length c.args.v c.loop-i.x c.loop-i.k)
+returns c =
+    omega (arith, c.loop-y.invariant.1, ap length (on_end c.args.v c.loop-y.x c.loop-y.k c.in-Some.rest.now c.loop-y.y-index c.loop-y-test.false), code_length c.args.v c.loop-y.x c.loop-y.k)

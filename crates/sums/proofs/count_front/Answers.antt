@@ -1,7 +1,6 @@
 -- `count_front` meets its contract: what is counted and what the row still holds, times the weight, is what the front gives.
 use Prim.Native.Nat.{ℕ, ◌-◌, ◌*◌, ◌≤◌}
-use mathlib.Core.Path.{refl, sym, ◌∙◌, subst}
-use mathlib.Core.Logic.{inl, inr}
+use mathlib.Core.Path.{sym, ◌∙◌, subst}
 use native.Mathlib.Nat.{mul-le-mul}
 use native.Mathlib.Omega.{arith}
 use Rattle.sums.proofs.Counting.{Counted, counted_first, counted_less, counted_next, counted_all}
@@ -14,9 +13,6 @@ products sum weight v few low small = (
   mul-le-mul {n₁ = weight} {m₁ = 255 - v} {n₂ = 2097152} {m₂ = 255} low (omega arith),
   mul-le-mul {n₁ = weight} {m₁ = 2} {n₂ = weight} {m₂ = 255 - v} (omega arith) (omega arith),
 )
-
-pub returns-then-v-octets : goal.returns-then-v-octets
-returns-then-v-octets c = inl refl
 
 pub lay-all-requires : goal.lay-all-requires
 lay-all-requires c = (c.requires.1, c.requires.2)
@@ -38,9 +34,6 @@ loop-sum-init c = (
 
 pub shape_of-row-then-weight-gt2097152 : goal.shape_of-row-then-weight-gt2097152
 shape_of-row-then-weight-gt2097152 c = c.loop-sum.invariant.0 ∙ sym c.requires.2
-
-pub returns-then-weight-gt2097152 : goal.returns-then-weight-gt2097152
-returns-then-weight-gt2097152 c = inl refl
 
 pub shift-deeper-requires : goal.shift-deeper-requires
 shift-deeper-requires c = (c.requires.1, c.loop-sum.invariant.0)
@@ -82,4 +75,4 @@ shape_of-row c = c.loop-sum.invariant.0 ∙ sym c.requires.2
 
 pub returns : goal.returns
 returns c =
-    inr (omega arith, omega arith, c.whole_runs-whole.ensures.octets_bound.1, counted_all c.args.v c.args.octets.now c.whole_runs-whole.result.octets c.loop-sum.row c.loop-sum.weight c.loop-sum.bins (subst (λ (x : ℕ). Counted c.args.v c.args.octets.now c.whole_runs-whole.result.octets c.loop-sum.row x c.loop-sum.weight c.loop-sum.bins) (omega arith) c.loop-sum.invariant.6))
+    (omega arith, (omega arith, omega arith, c.whole_runs-whole.ensures.octets_bound.1, counted_all c.args.v c.args.octets.now c.whole_runs-whole.result.octets c.loop-sum.row c.loop-sum.weight c.loop-sum.bins (subst (λ (x : ℕ). Counted c.args.v c.args.octets.now c.whole_runs-whole.result.octets c.loop-sum.row x c.loop-sum.weight c.loop-sum.bins) (omega arith) c.loop-sum.invariant.6)))

@@ -1,20 +1,37 @@
--- The table lent for each product is that product's.
-use lib.IntN.{ℤ}
-use mir.Facts.{to_z-of_z}
-use mathlib.Core.Path.{◌∙◌, sym, ap}
+-- Every level passed has its kind at its place.
+use Rattle.values.specs.declared.Reading.{Reading}
+use Rattle.lent.proofs.Filled.{filled_more}
+use mathlib.Core.Path.{◌∙◌, ap}
+use native.Mathlib.Omega.{arith}
 use Rattle.kinds.specs.KindTable.{kind_number}
-use Rattle.values.specs.Published.{table_of}
+use lib.ListN.{length-set}
+use lib.IntN.{ℤ}
+use mir.Syntax.{w32}
+use mir.Val.{to_z, of_z}
+use mir.Facts.{to_z-of_z}
 use Rattle.values.specs.Reading.{reading_of, kind_of}
+use Rattle.values.proofs.Published.{count_le}
 use Rattle.values.proofs.kinds_by.Goals as goal
 
-pub kinds_in-requires : goal.kinds_in-requires
-kinds_in-requires c = c.reflectivity_table-table.ensures ∙ sym (ap table_of c.in-Reflectivity.is)
+pub overflow_cast-level : goal.overflow_cast-level
+overflow_cast-level c = omega (arith, count_le c.args.product)
 
-pub kinds_in-requires-in-Velocity : goal.kinds_in-requires-in-Velocity
-kinds_in-requires-in-Velocity c = c.velocity_table-table.ensures ∙ sym (ap table_of c.in-Velocity.is)
+pub offset_bounds-numbers-level : goal.offset_bounds-numbers-level
+offset_bounds-numbers-level c = omega (arith, count_le c.args.product)
 
-pub returns-in-Reflectivity : goal.returns-in-Reflectivity
-returns-in-Reflectivity c = λ l h. c.kinds_in.ensures l h ∙ ap (λ (z : ℤ). kind_number (kind_of (reading_of c.args.product l) z)) (to_z-of_z c.ranges.t)
+pub bounds-numbers-level : goal.bounds-numbers-level
+bounds-numbers-level c = omega (arith, count_le c.args.product)
 
-pub returns-in-Velocity : goal.returns-in-Velocity
-returns-in-Velocity c = λ l h. c.kinds_in-in-Velocity.ensures l h ∙ ap (λ (z : ℤ). kind_number (kind_of (reading_of c.args.product l) z)) (to_z-of_z c.ranges.t)
+pub loop-level-preserved : goal.loop-level-preserved
+loop-level-preserved c = (
+  simp length-set c.loop-level.invariant.0,
+  filled_more c.loop-level.numbers (λ k. kind_number (kind_of (reading_of c.args.product k) (to_z w32 (of_z w32 c.args.t)))) c.loop-level.level _ (omega (arith, count_le c.args.product))
+      c.loop-level.invariant.1 (c.number_of.ensures ∙ ap kind_number (c.kind_of.ensures ∙ ap (λ (r : Reading). kind_of r (to_z w32 (of_z w32 c.args.t))) c.reading_of.ensures)),
+)
+
+pub returns-2 : goal.returns-2
+returns-2 c = λ l h.
+    filled_more c.loop-level.numbers (λ k. kind_number (kind_of (reading_of c.args.product k) (to_z w32 (of_z w32 c.args.t)))) c.loop-level.level _ (omega (arith, count_le c.args.product))
+    c.loop-level.invariant.1 (c.number_of.ensures ∙ ap kind_number (c.kind_of.ensures ∙ ap (λ (r : Reading). kind_of r (to_z w32 (of_z w32 c.args.t))) c.reading_of.ensures))
+    l (omega arith)
+    ∙ ap (λ (z : ℤ). kind_number (kind_of (reading_of c.args.product l) z)) (to_z-of_z c.ranges.t)

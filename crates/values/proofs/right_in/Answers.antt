@@ -30,30 +30,3 @@ loop-i-preserved c = let pair = c.pair_right-right.ensures ∙ ap (pair_right (g
 
 pub returns : goal.returns
 returns c = sym (and-true c.loop-i.right) ∙ ap (λ (b : Bool). c.loop-i.right && b) (sym (no_pair c.args.octets.now c.args.table.now c.loop-i.i (omega arith) c.loop-i.invariant.1)) ∙ c.loop-i.invariant.2
-
-pub overflow_mul-i : goal.overflow_mul-i
-overflow_mul-i c = omega arith
-
-pub bounds-octets-i : goal.bounds-octets-i
-bounds-octets-i c = omega arith
-
-pub overflow_mul-i-in-loop-i : goal.overflow_mul-i-in-loop-i
-overflow_mul-i-in-loop-i c = omega arith
-
-pub overflow_add-i : goal.overflow_add-i
-overflow_add-i c = omega arith
-
-pub bounds-octets-i-in-loop-i : goal.bounds-octets-i-in-loop-i
-bounds-octets-i-in-loop-i c = omega arith
-
-pub offset_bounds-table-i : goal.offset_bounds-table-i
-offset_bounds-table-i c = omega arith
-
-pub bounds-table-i : goal.bounds-table-i
-bounds-table-i c = omega arith
-
-pub overflow_add-i-in-loop-i : goal.overflow_add-i-in-loop-i
-overflow_add-i-in-loop-i c = omega arith
-
-pub loop-i-smaller : goal.loop-i-smaller
-loop-i-smaller c = omega arith

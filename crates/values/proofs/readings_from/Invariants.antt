@@ -4,7 +4,7 @@ use Rattle.lent.specs.Lent.{between, updated}
 use Rattle.runs.specs.Run.{levels}
 use Rattle.runs.proofs.Upto.{Upto}
 use Rattle.values.specs.Ray.{mark_at, held_at}
-use Rattle.values.proofs.readings_in.Given as goal
+use Rattle.values.proofs.readings_from.Given as goal
 
 abbrev pub invariant-loop-run : goal.invariant-loop-run
 invariant-loop-run l = Upto l.v l.octets l.b l.at l.bins × (l.marks ≡ updated (mark_at l.product) (between l.a l.bins (levels l.v l.octets)) l.initial.marks) × (l.values ≡ updated (held_at l.product) (between l.a l.bins (levels l.v l.octets)) l.initial.values)
