@@ -23,19 +23,19 @@ use values::Product;
 pub fn site_at(s: &[u8], at: usize) -> u16
     ensures { result ≡ site_at s.now at }
 {
-    rules::field16(s, at, 29)
+    rules::field::<u16>(s, at, 29)
 }
 
 pub fn greatest_at(s: &[u8], at: usize) -> u16
     ensures { result ≡ greatest_at s.now at }
 {
-    rules::field16(s, at, 13)
+    rules::field::<u16>(s, at, 13)
 }
 
 fn count_at(s: &[u8], at: usize) -> u16
     ensures { result ≡ count_at s.now at }
 {
-    rules::field16(s, at, 15)
+    rules::field::<u16>(s, at, 15)
 }
 
 // The field rules of each section, as one chain of tests without branches.
@@ -44,40 +44,40 @@ fn fields3(s: &[u8], at: usize) -> bool
     ensures { result ≡ meets_all s.now at rules3 }
 {
     rules::grid_fields(s, at, 50120)
-        & rules::within8(s, at, 39, 0, 0)
-        & rules::within16(s, at, 40, 0, 36000)
+        & rules::within::<u8>(s, at, 39, 0, 0)
+        & rules::within::<u16>(s, at, 40, 0, 36000)
 }
 
 fn fields4(s: &[u8], at: usize, parameter: u8, site: u16) -> bool
     ensures { result ≡ meets_all s.now at (rules4 parameter site) }
 {
-    rules::within16(s, at, 6, 0, 0)
-        & rules::within16(s, at, 8, 51022, 51022)
-        & rules::within8(s, at, 10, 15, 15)
-        & rules::within8(s, at, 11, 1, 2)
-        & rules::within8(s, at, 12, 8, 8)
-        & rules::within8(s, at, 13, 1, 1)
-        & rules::within8(s, at, 14, 13, 13)
+    rules::within::<u16>(s, at, 6, 0, 0)
+        & rules::within::<u16>(s, at, 8, 51022, 51022)
+        & rules::within::<u8>(s, at, 10, 15, 15)
+        & rules::within::<u8>(s, at, 11, 1, 2)
+        & rules::within::<u8>(s, at, 12, 8, 8)
+        & rules::within::<u8>(s, at, 13, 1, 1)
+        & rules::within::<u8>(s, at, 14, 13, 13)
         & rules::mode_ok(s, at, 38)
         & elevation_ok(s, at)
-        & rules::within8(s, at, 11, parameter, parameter)
-        & rules::within16(s, at, 29, site, site)
+        & rules::within::<u8>(s, at, 11, parameter, parameter)
+        & rules::within::<u16>(s, at, 29, site, site)
 }
 
 fn elevation_ok(s: &[u8], at: usize) -> bool
     ensures { result ≡ meets s.now at (either (magnitude 42 2 9000) (within 42 2 0xFFFF 0xFFFF)) }
 {
-    rules::magnitude16(s, at, 42, 9000) | rules::within16(s, at, 42, 0xFFFF, 0xFFFF)
+    rules::magnitude::<u16>(s, at, 42, 9000) | rules::within::<u16>(s, at, 42, 0xFFFF, 0xFFFF)
 }
 
 fn fields5(s: &[u8], at: usize, m: u16) -> bool
     ensures { result ≡ meets_all s.now at (rules5 m) }
 {
-    rules::within16(s, at, 10, 200, 200)
-        & rules::within8(s, at, 12, 8, 8)
-        & rules::within16(s, at, 13, 0, m)
-        & rules::within16(s, at, 15, m, m)
-        & rules::within8(s, at, 17, 2, 2)
+    rules::within::<u16>(s, at, 10, 200, 200)
+        & rules::within::<u8>(s, at, 12, 8, 8)
+        & rules::within::<u16>(s, at, 13, 0, m)
+        & rules::within::<u16>(s, at, 15, m, m)
+        & rules::within::<u8>(s, at, 17, 2, 2)
 }
 
 fn product_of(parameter: u8) -> Product
@@ -128,7 +128,7 @@ fn judge3(s: &[u8], at: usize) -> Result<(), Refusal>
     sections::check(rules::length_at(s, at) == 41, Why::SectionLength, at)?;
     let part = &s[at..at + 41];
     sections::check(fields3(part, 0), Why::Field, at)?;
-    let said = rules::wide(rules::field32(part, 0, 7));
+    let said = u64::from(rules::field::<u32>(part, 0, 7));
     sections::check(said == rules::points_at(part, 0), Why::Points, at)
 }
 
@@ -136,8 +136,8 @@ fn judge4(s: &[u8], x: Context, at: usize) -> Result<(), Refusal>
     requires { at + length_at s.now at ≤ length s.now }
     ensures { result ≡ first_fault (checks4 s.now x at) }
 {
-    let len = rules::wide(rules::length_at(s, at));
-    let due = 60 + 4 * rules::wide(rules::rays_at(s, x.section3));
+    let len = u64::from(rules::length_at(s, at));
+    let due = 60 + 4 * u64::from(rules::rays_at(s, x.section3));
     sections::check(len == due, Why::SectionLength, at)?;
     let parameter = rules::parameter_at(s, x.first);
     let site = site_at(s, x.first);
@@ -154,7 +154,7 @@ fn judge5_fields(s: &[u8], x: Context, at: usize) -> Result<(), Refusal>
     let product = product_of(rules::parameter_at(s, x.section4));
     let m = values::level_count(product) as u16;
     sections::check(fields5(part, 0, m), Why::Field, at)?;
-    let said = rules::wide(rules::field32(part, 0, 6));
+    let said = u64::from(rules::field::<u32>(part, 0, 6));
     let points = rules::points_at(s, x.section3);
     sections::check(said == points, Why::Points, at)?;
     sections::check(table_at(s, at, product), Why::Table, at)

@@ -23,44 +23,44 @@ fn fields3(s: &[u8], at: usize) -> bool
     ensures { result ≡ meets_all s.now at rules3 }
 {
     rules::grid_fields(s, at, 50121)
-        & rules::within8(s, at, 53, 0, 1)
-        & rules::within8(s, at, 54, 0, 1)
+        & rules::within::<u8>(s, at, 53, 0, 1)
+        & rules::within::<u8>(s, at, 54, 0, 1)
 }
 
 fn scan_fields(s: &[u8], at: usize) -> bool
     ensures { result ≡ meets_all s.now at scan_rules }
 {
-    rules::within8(s, at, 39, 0, 0) & rules::within8(s, at, 40, 255, 255)
+    rules::within::<u8>(s, at, 39, 0, 0) & rules::within::<u8>(s, at, 40, 255, 255)
 }
 
 fn fields4(s: &[u8], at: usize, parameter: u8, site: u16) -> bool
     ensures { result ≡ meets_all s.now at (rules4 parameter site) }
 {
-    rules::within16(s, at, 6, 0, 0)
-        & rules::within16(s, at, 8, 51123, 51123)
-        & rules::within8(s, at, 10, 15, 15)
-        & rules::within8(s, at, 12, 8, 8)
-        & rules::within8(s, at, 13, 1, 1)
-        & rules::within8(s, at, 32, 13, 13)
+    rules::within::<u16>(s, at, 6, 0, 0)
+        & rules::within::<u16>(s, at, 8, 51123, 51123)
+        & rules::within::<u8>(s, at, 10, 15, 15)
+        & rules::within::<u8>(s, at, 12, 8, 8)
+        & rules::within::<u8>(s, at, 13, 1, 1)
+        & rules::within::<u8>(s, at, 32, 13, 13)
         & rules::mode_ok(s, at, 42)
-        & rules::within8(s, at, 56, 0, 1)
-        & rules::within8(s, at, 57, 0, 1)
-        & rules::within8(s, at, 11, parameter, parameter)
-        & rules::within16(s, at, 28, site, site)
+        & rules::within::<u8>(s, at, 56, 0, 1)
+        & rules::within::<u8>(s, at, 57, 0, 1)
+        & rules::within::<u8>(s, at, 11, parameter, parameter)
+        & rules::within::<u16>(s, at, 28, site, site)
 }
 
 fn fields5(s: &[u8], at: usize) -> bool
     ensures { result ≡ meets_all s.now at rules5 }
 {
-    rules::within16(s, at, 10, 0, 0)
-        & rules::within16(s, at, 16, 0, 2)
-        & rules::within16(s, at, 18, 0, 4)
+    rules::within::<u16>(s, at, 10, 0, 0)
+        & rules::within::<u16>(s, at, 16, 0, 2)
+        & rules::within::<u16>(s, at, 18, 0, 4)
 }
 
 fn width_ok(s: &[u8], at: usize) -> bool
     ensures { result ≡ meets s.now at width_rule }
 {
-    rules::within8(s, at, 20, 8, 8) | rules::within8(s, at, 20, 16, 16)
+    rules::within::<u8>(s, at, 20, 8, 8) | rules::within::<u8>(s, at, 20, 16, 16)
 }
 
 // R is a number, and the width one that is read.
@@ -75,31 +75,31 @@ fn packing_ok(s: &[u8], at: usize) -> bool
 pub fn site_at(s: &[u8], at: usize) -> u16
     ensures { result ≡ site_at s.now at }
 {
-    rules::field16(s, at, 28)
+    rules::field::<u16>(s, at, 28)
 }
 
 pub fn reference_at(s: &[u8], at: usize) -> u32
     ensures { result ≡ reference_at s.now at }
 {
-    rules::field32(s, at, 12)
+    rules::field::<u32>(s, at, 12)
 }
 
 pub fn binary_scale_at(s: &[u8], at: usize) -> u16
     ensures { result ≡ binary_scale_at s.now at }
 {
-    rules::field16(s, at, 16)
+    rules::field::<u16>(s, at, 16)
 }
 
 pub fn decimal_scale_at(s: &[u8], at: usize) -> u16
     ensures { result ≡ decimal_scale_at s.now at }
 {
-    rules::field16(s, at, 18)
+    rules::field::<u16>(s, at, 18)
 }
 
 pub fn width_at(s: &[u8], at: usize) -> u8
     ensures { result ≡ width_at s.now at }
 {
-    rules::field8(s, at, 20)
+    rules::field::<u8>(s, at, 20)
 }
 
 // The lengths that sections must have.
@@ -108,7 +108,7 @@ pub fn width_at(s: &[u8], at: usize) -> u8
 fn with_lists(s: &[u8], at: usize, n: u8, k: u8, l: u8, rays: u32) -> u64
     ensures { result ≡ with_lists n k l s.now at rays }
 {
-    let flags = rules::field8(s, at, k) as u64 + rules::field8(s, at, l) as u64;
+    let flags = rules::field::<u8>(s, at, k) as u64 + rules::field::<u8>(s, at, l) as u64;
     n as u64 + 2 * flags * rays as u64
 }
 
@@ -126,14 +126,14 @@ fn judge3(s: &[u8], at: usize) -> Result<(), Refusal>
     requires { at + length_at s.now at ≤ length s.now }
     ensures { result ≡ first_fault (checks3 s.now at) }
 {
-    let len = rules::wide(rules::length_at(s, at));
+    let len = u64::from(rules::length_at(s, at));
     sections::check(58 <= len, Why::SectionLength, at)?;
     let part = &s[at..at + 58];
     let due = with_lists(part, 0, 58, 53, 54, rules::rays_at(part, 0));
     sections::check(len == due, Why::SectionLength, at)?;
     sections::check(fields3(part, 0), Why::Field, at)?;
     sections::check(scan_fields(part, 0), Why::Unread, at)?;
-    let said = rules::wide(rules::field32(part, 0, 7));
+    let said = u64::from(rules::field::<u32>(part, 0, 7));
     sections::check(said == rules::points_at(part, 0), Why::Points, at)
 }
 
@@ -141,7 +141,7 @@ fn judge4(s: &[u8], x: Context, at: usize) -> Result<(), Refusal>
     requires { at + length_at s.now at ≤ length s.now }
     ensures { result ≡ first_fault (checks4 s.now x at) }
 {
-    let len = rules::wide(rules::length_at(s, at));
+    let len = u64::from(rules::length_at(s, at));
     sections::check(61 <= len, Why::SectionLength, at)?;
     let part = &s[at..at + 61];
     let due = with_lists(part, 0, 61, 56, 57, rules::rays_at(s, x.section3));
@@ -159,7 +159,7 @@ fn judge5(s: &[u8], x: Context, at: usize) -> Result<(), Refusal>
     let part = &s[at..at + 21];
     sections::check(fields5(part, 0), Why::Field, at)?;
     sections::check(packing_ok(part, 0), Why::Unread, at)?;
-    let said = rules::wide(rules::field32(part, 0, 6));
+    let said = u64::from(rules::field::<u32>(part, 0, 6));
     let points = rules::points_at(s, x.section3);
     sections::check(said == points, Why::Points, at)
 }
@@ -168,7 +168,7 @@ pub fn judge7(s: &[u8], x: Context, at: usize) -> Result<(), Refusal>
     requires { points_at s.now x.section3 ≤ 2097152 }
     ensures { result ≡ first_fault (checks7 s.now x at) }
 {
-    let len = rules::wide(rules::length_at(s, at));
+    let len = u64::from(rules::length_at(s, at));
     let due = length7_at(s, x.section3, x.section5);
     sections::check(len == due, Why::SectionLength, at)
 }

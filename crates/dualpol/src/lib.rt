@@ -64,9 +64,9 @@ fn cell_at(file: &[u8], at: usize, width: u8, n: usize) -> u16
 {
     let from = at + 5;
     if width == 8 {
-        return octets::octet(file, from + n) as u16;
+        return octets::be::<u8>(file, from + n) as u16;
     }
-    octets::be16(file, from + 2 * n)
+    octets::be::<u16>(file, from + 2 * n)
 }
 
 // The value that the cell of a bin tells, if it tells one.

@@ -7,12 +7,20 @@ use native.Mathlib.Numerals.{add-one}
 use native.Mathlib.Omega.{arith}
 use lib.ListN.{length, replicate, take, drop, set, get_or, take-append-drop, length-append, length-replicate, length-drop, replicate-append-replicate}
 use lib.Seq.{take_all, take-set-le, drop-set-lt, set_at, length-take-le, drop-cons, take_at, drop_at, take-add, drop-drop, drop-append-add, take-append_seam}
+use borrow.Rule.Slice.PartMut.{put_mid, post_of, Post-is}
 use Rattle.octets.proofs.Orders.{by_order}
 use Rattle.lent.specs.Lent.{front, placed, between}
 
 pub placed_none : {A : Type 0} (d : List A) (at : ℕ) → d ≡ placed d at []
 unfolding placed
 placed_none d at = sym (simp add-zero (take-append-drop at d))
+
+-- what `&mut d[at..e]` was when given back stands in d at its place
+pub part_placed : {A : Type 0} (d : List A) (at e : ℕ) (q p : List A) → q ≡ p → at + length p ≡ e → put_mid at (e - at) d q ≡ placed d at p
+unfolding placed
+part_placed {A} d at e q p same size =
+    let rest : post_of at (e - at) d ≡ drop (at + length p) d = Post-is at e d (omega arith) ∙ ap (λ (n : ℕ). drop n d) (sym size) in
+    λ i. take at d ++ (same i ++ rest i)
 
 module _ {A : Type 0} (d : List A) (at : ℕ) (P : List A) where
   pub length_placed : at + length P ≤ length d → length (placed d at P) ≡ length d

@@ -1,33 +1,36 @@
--- Numbers put in two parts, the more significant first, are put whole.
-use Prim.Native.Nat.{ℕ, ◌+◌, ◌*◌, ◌/◌, ◌%◌, ◌^◌, ◌<◌, ◌≤◌}
-use mathlib.Core.Path.{◌≡◌, sym, ap, subst, ◌∙◌}
-use mathlib.Core.List.{List, [], ◌∷◌}
-use native.Mathlib.Omega.{arith}
-use lib.ListN.{length, set, length-set}
+-- The octets of a 64-bit number, the most significant first: the last w of them are what w octets write.
+use Rattle.std.proofs.Common.{ℕ, zero, suc, ◌+◌, ◌-◌, ◌/◌, ◌%◌, ◌^◌, ◌≤◌, ◌≡◌, [], ◌∷◌, ◌++◌, take, drop, refl, sym, ap, ◌∙◌, arith, append_assoc}
+use Rattle.std.proofs.lemmas.List.{append-nil, take_all}
+use Rattle.std.proofs.Math.Nat.{pow-suc, mul_comm, div-div-eq-div-mul, add-zero, add-suc}
+use Rattle.std.proofs.Math.Seq.{drop_at}
+use Rattle.std.specs.Int.{w64, byte_at, bytes_high_first, to_be_bytes}
 use Rattle.octets.specs.Octets.{in_octets}
-use Rattle.octets.proofs.Written.{written_join}
-use Rattle.lent.specs.Put.{Put}
-use Rattle.lent.proofs.Lent.{first_put, placed_set}
-use Rattle.lent.proofs.Putting.{then, named}
+use Rattle.octets.proofs.Written.{written_length}
 
--- one octet
-one_octet : (n : ℕ) → n < 256 → n ∷ [] ≡ in_octets 1 n
+-- those in front are of what is left by those behind
+pub split_off : (m w n : ℕ) → in_octets (m + w) n ≡ in_octets m (n / 256 ^ w) ++ in_octets w n
 unfolding in_octets
-one_octet n h = let small : n ≡ n % 256 = omega arith in ap (λ (x : ℕ). x ∷ []) small
+split_off m zero n =
+    let whole : n / 256 ^ 0 ≡ n = omega arith in
+    rw (whole, add-zero m) (sym (append-nil (in_octets m n)))
+split_off m (suc w) n =
+    let front : n / 256 / 256 ^ w ≡ n / 256 ^ suc w = div-div-eq-div-mul n 256 (256 ^ w) ∙ ap (λ (x : ℕ). n / x) (mul_comm 256 (256 ^ w) ∙ sym (pow-suc 256 w)) in
+    rw (add-suc m w, split_off m w (n / 256), front) (append_assoc (in_octets m (n / 256 ^ suc w)) (in_octets w (n / 256)) (n % 256 ∷ []))
 
-pub put_one : (d : List ℕ) (at n : ℕ) → n < 256 → at < length d → Put d at (in_octets 1 n) (set d at n) (at + 1)
-put_one d at n h room =
-    named (one_octet n h) (record { there = first_put d at n room ∙ placed_set d at n (n ∷ []) (omega arith); past = omega arith; inside = omega arith })
+byte_is : (w n : ℕ) → byte_at w n ≡ n / 256 ^ w % 256
+byte_is zero n = let whole : n / 256 ^ 0 ≡ n = omega arith in rw whole refl
+byte_is (suc w) n = refl
 
--- a number that is put as its two parts
-pub halves : {d e f : List ℕ} {at a b : ℕ} (m w n high low : ℕ) → n ≡ high * 256 ^ w + low → low < 256 ^ w
-    → Put d at (in_octets m high) e a → Put e a (in_octets w low) f b → Put d at (in_octets (m + w) n) f b
-halves m w n high low is small x y = named (sym (ap (in_octets (m + w)) is ∙ written_join m w high low small)) (then x y)
+pub high_first : (w n : ℕ) → bytes_high_first w n ≡ in_octets w n
+unfolding in_octets
+high_first zero n = refl
+high_first (suc w) n =
+    let one : suc w ≡ 1 + w = omega arith in
+    (λ i. byte_is w n i ∷ high_first w n i) ∙ sym (ap (λ (k : ℕ). in_octets k n) one ∙ split_off 1 w n)
 
--- two octets, each stored by itself
-pub put_two : (d : List ℕ) (at n : ℕ) → n < 65536 → at + 2 ≤ length d → Put d at (in_octets 2 n) (set (set d at (n / 256)) (at + 1) (n % 256)) (at + 2)
-put_two d at n h room =
-    let past : at + 1 + 1 ≡ at + 2 = omega arith in
-    subst (λ (next : ℕ). Put d at (in_octets 2 n) (set (set d at (n / 256)) (at + 1) (n % 256)) next) past
-    (halves 1 1 n (n / 256) (n % 256) (omega arith) (omega arith) (put_one d at (n / 256) (omega arith) (omega arith))
-    (put_one (set d at (n / 256)) (at + 1) (n % 256) (omega arith) (omega (arith, length-set d at (n / 256)))))
+pub last_octets : (n w : ℕ) → w ≤ 8 → take (8 - (8 - w)) (drop (8 - w) (to_be_bytes w64 n)) ≡ in_octets w n
+last_octets n w few =
+    let all : 8 ≡ 8 - w + w = omega arith in
+    let last : 8 - (8 - w) ≡ w = omega arith in
+    let split : to_be_bytes w64 n ≡ in_octets (8 - w) (n / 256 ^ w) ++ in_octets w n = high_first 8 n ∙ ap (λ (k : ℕ). in_octets k n) all ∙ split_off (8 - w) w n in
+    rw (split, last, drop_at (in_octets (8 - w) (n / 256 ^ w)) (in_octets w n) (8 - w) (written_length (8 - w) (n / 256 ^ w))) (take_all w (in_octets w n) (omega (arith, written_length w n)))

@@ -172,7 +172,7 @@ fn put_more_lines(
     requires step_room_in_bounds { at + step_room ≤ length text.old }
     ensures { StepTo file.now words.now text.old (Progress.ToWrite part l written) at text.new result }
 {
-    let n = lent::least(l.count - written, LINES);
+    let n = (l.count - written).min(LINES);
     let to = lines::put_entries(text, at, words, written, n);
     if written + n < l.count {
         return AfterStep {

@@ -70,7 +70,7 @@ fn elevation_of(n: u16) -> Option<i32>
     if n == 0xFFFF {
         None
     } else {
-        Some(octets::signed16(n))
+        Some(octets::signed(n))
     }
 }
 
@@ -80,9 +80,9 @@ fn info_of(file: &[u8], c: Cut) -> CutInfo
     let section3 = c.section3;
     let section4 = c.section4;
     let grid = sections::grid_at(file, section3);
-    let start_azimuth = rules::field16(file, section3, 40);
-    let mode = rules::field8(file, section4, 38);
-    let elevation = elevation_of(rules::field16(file, section4, 42));
+    let start_azimuth = rules::field::<u16>(file, section3, 40);
+    let mode = rules::field::<u8>(file, section4, 38);
+    let elevation = elevation_of(rules::field::<u16>(file, section4, 42));
     CutInfo {
         grid,
         start_azimuth,
@@ -124,7 +124,7 @@ fn ray_values_on(file: &[u8], c: Cut, ray: usize, marks: &mut [u8], values: &mut
     ensures marks_after { marks.new ≡ if_written result (marks_of (product_in file.now c) (ray_in file.now c ray) marks.old) marks.old }
     ensures values_after { values.new ≡ if_written result (values_of (product_in file.now c) (ray_in file.now c ray) values.old) values.old }
 {
-    let room = lent::least(marks.len(), values.len());
+    let room = marks.len().min(values.len());
     calls::judge_ray(file, c, ray, room)?;
     cuts::readings_into(file, c, ray, marks, values);
     Ok(())

@@ -89,7 +89,7 @@ fn ray_values_from_on(
     ensures marks_after { marks.new ≡ if_written result (marks_of (product_in file.now c) (ray_from file.now c rec) marks.old) marks.old }
     ensures values_after { values.new ≡ if_written result (values_of (product_in file.now c) (ray_from file.now c rec) values.old) values.old }
 {
-    let room = lent::least(marks.len(), values.len());
+    let room = marks.len().min(values.len());
     calls::judge_ray(file, c, ray, room)?;
     let fits = cuts::readings_from(file, c, rec, marks, values);
     sections::check(fits, Why::Record, c.section7)

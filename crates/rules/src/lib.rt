@@ -7,6 +7,8 @@ ghost use Rattle.octets.specs.Octets.{be};
 ghost use Rattle.rules.specs.Rules.{field, meets, meets_all, within, magnitude, rules0, rules1, grid_rules, mode_rule, rules6, rules8};
 ghost use Rattle.rules.specs.Fields.{length_at, number_at, bins_at, rays_at, points_at, parameter_at};
 
+use octets::Number;
+
 // Fields by octet, counted from 1 inside a section. No call has a condition: what is past the end reads as 0.
 
 // A place that reads as octet k of the section at `at` does.
@@ -16,72 +18,26 @@ fn spot(s: &[u8], at: usize, k: u8) -> usize
     if s.len() < at {
         return s.len();
     }
-    let p = at + k as usize;
-    if p == 0 { 0 } else { p - 1 }
+    (at + usize::from(k)).saturating_sub(1)
 }
 
-pub fn field8(s: &[u8], at: usize, k: u8) -> u8
-    ensures { result ≡ field s.now at k 1 }
+pub fn field<T: Number>(s: &[u8], at: usize, k: u8) -> T
+    ensures { T.value result ≡ field s.now at k T.WIDTH }
 {
-    octets::octet(s, spot(s, at, k))
+    octets::be(s, spot(s, at, k))
 }
 
-pub fn field16(s: &[u8], at: usize, k: u8) -> u16
-    ensures { result ≡ field s.now at k 2 }
+pub fn within<T: Number>(s: &[u8], at: usize, k: u8, lo: T, hi: T) -> bool
+    ensures { result ≡ meets s.now at (within k T.WIDTH (T.value lo) (T.value hi)) }
 {
-    octets::be16(s, spot(s, at, k))
+    let n = field::<T>(s, at, k).wide();
+    (lo.wide() <= n) & (n <= hi.wide())
 }
 
-pub fn field32(s: &[u8], at: usize, k: u8) -> u32
-    ensures { result ≡ field s.now at k 4 }
+pub fn magnitude<T: Number>(s: &[u8], at: usize, k: u8, m: T) -> bool
+    ensures { result ≡ meets s.now at (magnitude k T.WIDTH (T.value m)) }
 {
-    octets::be32(s, spot(s, at, k))
-}
-
-pub fn field64(s: &[u8], at: usize, k: u8) -> u64
-    ensures { result ≡ field s.now at k 8 }
-{
-    octets::be64(s, spot(s, at, k))
-}
-
-pub fn within8(s: &[u8], at: usize, k: u8, lo: u8, hi: u8) -> bool
-    ensures { result ≡ meets s.now at (within k 1 lo hi) }
-{
-    let n = field8(s, at, k);
-    (lo <= n) & (n <= hi)
-}
-
-pub fn within16(s: &[u8], at: usize, k: u8, lo: u16, hi: u16) -> bool
-    ensures { result ≡ meets s.now at (within k 2 lo hi) }
-{
-    let n = field16(s, at, k);
-    (lo <= n) & (n <= hi)
-}
-
-fn within32(s: &[u8], at: usize, k: u8, lo: u32, hi: u32) -> bool
-    ensures { result ≡ meets s.now at (within k 4 lo hi) }
-{
-    let n = field32(s, at, k);
-    (lo <= n) & (n <= hi)
-}
-
-fn within64(s: &[u8], at: usize, k: u8, lo: u64, hi: u64) -> bool
-    ensures { result ≡ meets s.now at (within k 8 lo hi) }
-{
-    let n = field64(s, at, k);
-    (lo <= n) & (n <= hi)
-}
-
-pub fn magnitude16(s: &[u8], at: usize, k: u8, m: u16) -> bool
-    ensures { result ≡ meets s.now at (magnitude k 2 m) }
-{
-    field16(s, at, k) % 32768 <= m
-}
-
-fn magnitude32(s: &[u8], at: usize, k: u8, m: u32) -> bool
-    ensures { result ≡ meets s.now at (magnitude k 4 m) }
-{
-    field32(s, at, k) % 2147483648 <= m
+    field::<T>(s, at, k).wide() % octets::sign_bit::<T>() <= m.wide()
 }
 
 // The field rules of each section, as one chain of tests without branches.
@@ -90,60 +46,60 @@ pub fn fields0(s: &[u8]) -> bool
     ensures { result ≡ meets_all s.now 0 (rules0 (length s.now)) }
 {
     let n = s.len() as u64;
-    within32(s, 0, 1, 0x47524942, 0x47524942)
-        & within8(s, 0, 7, 0, 0)
-        & within8(s, 0, 8, 2, 2)
-        & within64(s, 0, 9, n, n)
+    within::<u32>(s, 0, 1, 0x47524942, 0x47524942)
+        & within::<u8>(s, 0, 7, 0, 0)
+        & within::<u8>(s, 0, 8, 2, 2)
+        & within::<u64>(s, 0, 9, n, n)
 }
 
 pub fn fields1(s: &[u8], at: usize) -> bool
     ensures { result ≡ meets_all s.now at rules1 }
 {
-    within16(s, at, 6, 34, 34)
-        & within16(s, at, 8, 0, 0)
-        & within8(s, at, 12, 3, 3)
-        & within16(s, at, 13, 1000, 9999)
-        & within8(s, at, 15, 1, 12)
-        & within8(s, at, 16, 1, 31)
-        & within8(s, at, 17, 0, 23)
-        & within8(s, at, 18, 0, 59)
-        & within8(s, at, 19, 0, 59)
-        & within8(s, at, 20, 0, 0)
-        & within8(s, at, 21, 7, 7)
+    within::<u16>(s, at, 6, 34, 34)
+        & within::<u16>(s, at, 8, 0, 0)
+        & within::<u8>(s, at, 12, 3, 3)
+        & within::<u16>(s, at, 13, 1000, 9999)
+        & within::<u8>(s, at, 15, 1, 12)
+        & within::<u8>(s, at, 16, 1, 31)
+        & within::<u8>(s, at, 17, 0, 23)
+        & within::<u8>(s, at, 18, 0, 59)
+        & within::<u8>(s, at, 19, 0, 59)
+        & within::<u8>(s, at, 20, 0, 0)
+        & within::<u8>(s, at, 21, 7, 7)
 }
 
 // Section 3 of a grid template, up to octet 34.
 pub fn grid_fields(s: &[u8], at: usize, template: u16) -> bool
     ensures { result ≡ meets_all s.now at (grid_rules template) }
 {
-    within8(s, at, 6, 0, 0)
-        & within8(s, at, 11, 0, 0)
-        & within8(s, at, 12, 0, 0)
-        & within16(s, at, 13, template, template)
-        & within32(s, at, 15, 1, 2048)
-        & within32(s, at, 19, 1, 1024)
-        & magnitude32(s, at, 23, 90000000)
-        & within32(s, at, 27, 0, 360000000)
-        & within32(s, at, 31, 1, 0xFFFFFFFF)
+    within::<u8>(s, at, 6, 0, 0)
+        & within::<u8>(s, at, 11, 0, 0)
+        & within::<u8>(s, at, 12, 0, 0)
+        & within::<u16>(s, at, 13, template, template)
+        & within::<u32>(s, at, 15, 1, 2048)
+        & within::<u32>(s, at, 19, 1, 1024)
+        & magnitude::<u32>(s, at, 23, 90000000)
+        & within::<u32>(s, at, 27, 0, 360000000)
+        & within::<u32>(s, at, 31, 1, 0xFFFFFFFF)
 }
 
 // An octet that is 0, 1, 2 or 255.
 pub fn mode_ok(s: &[u8], at: usize, k: u8) -> bool
     ensures { result ≡ meets s.now at (mode_rule k) }
 {
-    within8(s, at, k, 0, 2) | within8(s, at, k, 255, 255)
+    within::<u8>(s, at, k, 0, 2) | within::<u8>(s, at, k, 255, 255)
 }
 
 pub fn fields6(s: &[u8], at: usize) -> bool
     ensures { result ≡ meets_all s.now at rules6 }
 {
-    within8(s, at, 6, 255, 255)
+    within::<u8>(s, at, 6, 255, 255)
 }
 
 pub fn fields8(s: &[u8], at: usize) -> bool
     ensures { result ≡ meets_all s.now at rules8 }
 {
-    within32(s, at, 1, 0x37373737, 0x37373737)
+    within::<u32>(s, at, 1, 0x37373737, 0x37373737)
 }
 
 // The fields that other sections and the calls go by: each octet number stands here alone.
@@ -151,38 +107,38 @@ pub fn fields8(s: &[u8], at: usize) -> bool
 pub fn length_at(s: &[u8], at: usize) -> u32
     ensures { result ≡ length_at s.now at }
 {
-    field32(s, at, 1)
+    field(s, at, 1)
 }
 
 pub fn number_at(s: &[u8], at: usize) -> u8
     ensures { result ≡ number_at s.now at }
 {
-    field8(s, at, 5)
+    field(s, at, 5)
 }
 
 pub fn bins_at(s: &[u8], at: usize) -> u32
     ensures { result ≡ bins_at s.now at }
 {
-    field32(s, at, 15)
+    field(s, at, 15)
 }
 
 pub fn rays_at(s: &[u8], at: usize) -> u32
     ensures { result ≡ rays_at s.now at }
 {
-    field32(s, at, 19)
+    field(s, at, 19)
 }
 
 pub fn parameter_at(s: &[u8], at: usize) -> u8
     ensures { result ≡ parameter_at s.now at }
 {
-    field8(s, at, 11)
+    field(s, at, 11)
 }
 
 // Nb x Nr.
 pub fn points_of(nb: u32, nr: u32) -> u64
     ensures { result ≡ nb * nr }
 {
-    wide(nb) * wide(nr)
+    u64::from(nb) * u64::from(nr)
 }
 
 // Nb x Nr, by the section 3 at a place.
@@ -190,10 +146,4 @@ pub fn points_at(s: &[u8], at: usize) -> u64
     ensures { result ≡ points_at s.now at }
 {
     points_of(bins_at(s, at), rays_at(s, at))
-}
-
-pub fn wide(x: u32) -> u64
-    ensures { result ≡ x }
-{
-    x as u64
 }

@@ -153,12 +153,12 @@ pub fn end_at(s: &[u8], at: usize) -> usize
 pub fn time_of(s: &[u8]) -> Time
     ensures { result ≡ time_of s.now }
 {
-    let year = rules::field16(s, 16, 13);
-    let month = rules::field8(s, 16, 15);
-    let day = rules::field8(s, 16, 16);
-    let hour = rules::field8(s, 16, 17);
-    let minute = rules::field8(s, 16, 18);
-    let second = rules::field8(s, 16, 19);
+    let year = rules::field::<u16>(s, 16, 13);
+    let month = rules::field::<u8>(s, 16, 15);
+    let day = rules::field::<u8>(s, 16, 16);
+    let hour = rules::field::<u8>(s, 16, 17);
+    let minute = rules::field::<u8>(s, 16, 18);
+    let second = rules::field::<u8>(s, 16, 19);
     Time {
         year,
         month,
@@ -187,10 +187,10 @@ pub fn grid_at(s: &[u8], at: usize) -> Grid
 {
     let nb = rules::bins_at(s, at);
     let nr = rules::rays_at(s, at);
-    let latitude = octets::signed32(rules::field32(s, at, 23));
-    let longitude = rules::field32(s, at, 27);
-    let dx = rules::field32(s, at, 31);
-    let dstart = rules::field32(s, at, 35);
+    let latitude = octets::signed(rules::field::<u32>(s, at, 23));
+    let longitude = rules::field::<u32>(s, at, 27);
+    let dx = rules::field::<u32>(s, at, 31);
+    let dstart = rules::field::<u32>(s, at, 35);
     Grid {
         nb,
         nr,

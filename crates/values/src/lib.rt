@@ -122,7 +122,7 @@ fn put_reading(reading: Reading, lo: usize, hi: usize, marks: &mut [u8], values:
     ensures values_after { values.new ≡ placed values.old lo (replicate (numbered_to reading lo hi - lo) (number_of reading)) }
 {
     lent::stamp(marks, lo, hi, mark_of(reading));
-    lent::stamp_number(values, lo, numbered_to(reading, lo, hi), number_of(reading));
+    lent::stamp(values, lo, numbered_to(reading, lo, hi), number_of(reading));
 }
 
 // The readings of the bins a up to b of what the octets give, from their front on, run by run, however long their runs are: their marks at the front of `marks`,

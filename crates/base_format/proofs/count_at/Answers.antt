@@ -4,4 +4,4 @@ use Rattle.base_format.proofs.count_at.Goals as goal
 
 pub returns : goal.returns
 unfolding count_at
-returns c = c.field16.ensures
+returns c = c.field.ensures

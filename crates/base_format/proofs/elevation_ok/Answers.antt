@@ -5,4 +5,4 @@ use Rattle.base_format.proofs.elevation_ok.Goals as goal
 
 pub returns : goal.returns
 unfolding meets
-returns c = one_of c.magnitude16.ensures c.within16.ensures
+returns c = one_of c.magnitude.ensures c.within.ensures

@@ -7,9 +7,9 @@ use Rattle.base_format.proofs.fields5.Goals as goal
 
 pub returns : goal.returns
 unfolding rules5
-returns c = (both (both (both (both c.within16.ensures
-    c.within8.ensures)
-    c.within16-2.ensures)
-    c.within16-3.ensures)
-    c.within8-2.ensures)
+returns c = (both (both (both (both c.within.ensures
+    c.within-2.ensures)
+    c.within-3.ensures)
+    c.within-4.ensures)
+    c.within-5.ensures)
     ∙ flat true c.args.s.now c.args.at (rules5 c.args.m)

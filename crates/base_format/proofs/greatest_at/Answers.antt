@@ -4,4 +4,4 @@ use Rattle.base_format.proofs.greatest_at.Goals as goal
 
 pub returns : goal.returns
 unfolding greatest_at
-returns c = c.field16.ensures
+returns c = c.field.ensures

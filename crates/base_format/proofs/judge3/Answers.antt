@@ -26,6 +26,6 @@ returns c =
     let long = eqb-true c.length_at.result 41 (held _ _ _ c.check.ensures c.in_ok-check.was) in
     let inside : c.args.at + 41 ≤ length c.args.s.now = omega (arith, long, c.length_at.ensures, c.requires) in
     let fields : c.fields3.result ≡ meets_all c.args.s.now c.args.at rules3 = c.fields3.ensures ∙ part_rules c.args.s.now c.args.at (c.args.at + 41) inside 41 (omega arith) rules3 refl in
-    let said : c.wide-said.result ≡ field c.args.s.now c.args.at 7 4 = c.wide-said.ensures ∙ c.field32.ensures ∙ part_field c.args.s.now c.args.at (c.args.at + 41) inside 7 4 (omega arith) (omega arith) in
+    let said : c.from-said.result ≡ field c.args.s.now c.args.at 7 4 = c.from-said.ensures ∙ c.field.ensures ∙ part_field c.args.s.now c.args.at (c.args.at + 41) inside 7 4 (omega arith) (omega arith) in
     let due : c.points_at.result ≡ points_at c.args.s.now c.args.at = c.points_at.ensures ∙ part_points c.args.s.now c.args.at (c.args.at + 41) inside (omega arith) in
     search rules

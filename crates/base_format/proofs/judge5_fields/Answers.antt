@@ -25,7 +25,7 @@ unfolding rules5
 returns-in_err-check-2 c =
     let inside : c.args.at + 17 ≤ length c.args.s.now = omega (arith, c.requires) in
     let fields : c.fields5.result ≡ meets_all c.args.s.now c.args.at (rules5 c.level_count-m.result) = c.fields5.ensures ∙ part_rules c.args.s.now c.args.at (c.args.at + 17) inside 17 (omega arith) (rules5 c.level_count-m.result) refl in
-    let said : c.wide-said.result ≡ field c.args.s.now c.args.at 6 4 = c.wide-said.ensures ∙ c.field32.ensures ∙ part_field c.args.s.now c.args.at (c.args.at + 17) inside 6 4 (omega arith) (omega arith) in
+    let said : c.from-said.result ≡ field c.args.s.now c.args.at 6 4 = c.from-said.ensures ∙ c.field.ensures ∙ part_field c.args.s.now c.args.at (c.args.at + 17) inside 6 4 (omega arith) (omega arith) in
     search rules
 
 pub returns : goal.returns
@@ -33,5 +33,5 @@ unfolding rules5
 returns c =
     let inside : c.args.at + 17 ≤ length c.args.s.now = omega (arith, c.requires) in
     let fields : c.fields5.result ≡ meets_all c.args.s.now c.args.at (rules5 c.level_count-m.result) = c.fields5.ensures ∙ part_rules c.args.s.now c.args.at (c.args.at + 17) inside 17 (omega arith) (rules5 c.level_count-m.result) refl in
-    let said : c.wide-said.result ≡ field c.args.s.now c.args.at 6 4 = c.wide-said.ensures ∙ c.field32.ensures ∙ part_field c.args.s.now c.args.at (c.args.at + 17) inside 6 4 (omega arith) (omega arith) in
+    let said : c.from-said.result ≡ field c.args.s.now c.args.at 6 4 = c.from-said.ensures ∙ c.field.ensures ∙ part_field c.args.s.now c.args.at (c.args.at + 17) inside 6 4 (omega arith) (omega arith) in
     search rules

@@ -4,4 +4,4 @@ use Rattle.dual_format.proofs.binary_scale_at.Goals as goal
 
 pub returns : goal.returns
 unfolding binary_scale_at
-returns c = c.field16.ensures
+returns c = c.field.ensures

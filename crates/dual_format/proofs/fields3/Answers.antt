@@ -8,7 +8,7 @@ use Rattle.dual_format.proofs.fields3.Goals as goal
 pub returns : goal.returns
 unfolding rules3
 returns c = (both (both c.grid_fields.ensures
-    c.within8.ensures)
-    c.within8-2.ensures)
+    c.within.ensures)
+    c.within-2.ensures)
     ∙ flat (meets_all c.args.s.now c.args.at (grid_rules 50121)) c.args.s.now c.args.at flag_rules
     ∙ sym (meets_append c.args.s.now c.args.at (grid_rules 50121) flag_rules)

@@ -7,7 +7,7 @@ use Rattle.dual_format.proofs.fields5.Goals as goal
 
 pub returns : goal.returns
 unfolding rules5
-returns c = (both (both c.within16.ensures
-    c.within16-2.ensures)
-    c.within16-3.ensures)
+returns c = (both (both c.within.ensures
+    c.within-2.ensures)
+    c.within-3.ensures)
     ∙ flat true c.args.s.now c.args.at rules5

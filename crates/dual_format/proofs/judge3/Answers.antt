@@ -41,12 +41,12 @@ pub returns-in_err-check : goal.returns-in_err-check
 unfolding with_lists
 returns-in_err-check c =
     let f = failed _ _ _ c.check.ensures _ c.in_err-check.was c.from_residual.ensures.1 in
-    let short : c.wide-len.result < 58 = leb-false 58 c.wide-len.result f.0 in
-    rw (ne_eqb (length_at c.args.s.now c.args.at) (length3 c.args.s.now c.args.at) (λ e. omega (arith, short, c.wide-len.ensures, c.length_at.ensures))) f.1
+    let short : c.from-len.result < 58 = leb-false 58 c.from-len.result f.0 in
+    rw (ne_eqb (length_at c.args.s.now c.args.at) (length3 c.args.s.now c.args.at) (λ e. omega (arith, short, c.from-len.ensures, c.length_at.ensures))) f.1
 
 pub returns-in_err-check-2 : goal.returns-in_err-check-2
 returns-in_err-check-2 c =
-    let len = c.wide-len.ensures ∙ c.length_at.ensures in
+    let len = c.from-len.ensures ∙ c.length_at.ensures in
     let inside = long c.args.s.now c.args.at _ len (held _ _ _ c.check.ensures c.in_ok-check.was) c.requires in
     let due = c.with_lists-due.ensures ∙ ap (λ (r : ℕ). with_lists 58 53 54 (part c.args.s.now c.args.at inside) 0 r) c.rays_at.ensures ∙ lists c.args.s.now c.args.at inside in
     let f = failed _ _ _ c.check-2.ensures _ c.in_err-check-2.was c.from_residual-in_err-check-2.ensures.1 in
@@ -54,7 +54,7 @@ returns-in_err-check-2 c =
 
 pub returns-in_err-check-3 : goal.returns-in_err-check-3
 returns-in_err-check-3 c =
-    let len = c.wide-len.ensures ∙ c.length_at.ensures in
+    let len = c.from-len.ensures ∙ c.length_at.ensures in
     let inside = long c.args.s.now c.args.at _ len (held _ _ _ c.check.ensures c.in_ok-check.was) c.requires in
     let due = c.with_lists-due.ensures ∙ ap (λ (r : ℕ). with_lists 58 53 54 (part c.args.s.now c.args.at inside) 0 r) c.rays_at.ensures ∙ lists c.args.s.now c.args.at inside in
     let f = failed _ _ _ c.check-3.ensures _ c.in_err-check-3.was c.from_residual-in_err-check-3.ensures.1 in
@@ -62,7 +62,7 @@ returns-in_err-check-3 c =
 
 pub returns-in_err-check-4 : goal.returns-in_err-check-4
 returns-in_err-check-4 c =
-    let len = c.wide-len.ensures ∙ c.length_at.ensures in
+    let len = c.from-len.ensures ∙ c.length_at.ensures in
     let inside = long c.args.s.now c.args.at _ len (held _ _ _ c.check.ensures c.in_ok-check.was) c.requires in
     let due = c.with_lists-due.ensures ∙ ap (λ (r : ℕ). with_lists 58 53 54 (part c.args.s.now c.args.at inside) 0 r) c.rays_at.ensures ∙ lists c.args.s.now c.args.at inside in
     let f = failed _ _ _ c.check-4.ensures _ c.in_err-check-4.was c.from_residual-in_err-check-4.ensures.1 in
@@ -70,9 +70,9 @@ returns-in_err-check-4 c =
 
 pub returns : goal.returns
 returns c =
-    let len = c.wide-len.ensures ∙ c.length_at.ensures in
+    let len = c.from-len.ensures ∙ c.length_at.ensures in
     let inside = long c.args.s.now c.args.at _ len (held _ _ _ c.check.ensures c.in_ok-check.was) c.requires in
     let due = c.with_lists-due.ensures ∙ ap (λ (r : ℕ). with_lists 58 53 54 (part c.args.s.now c.args.at inside) 0 r) c.rays_at.ensures ∙ lists c.args.s.now c.args.at inside in
-    let said = c.wide-said.ensures ∙ c.field32.ensures ∙ part_field c.args.s.now c.args.at (c.args.at + 58) inside 7 4 (omega arith) (omega arith) in
+    let said = c.from-said.ensures ∙ c.field.ensures ∙ part_field c.args.s.now c.args.at (c.args.at + 58) inside 7 4 (omega arith) (omega arith) in
     let points = c.points_at.ensures ∙ part_points c.args.s.now c.args.at (c.args.at + 58) inside (omega arith) in
     rw (← len, ← due, held _ _ _ c.check-2.ensures c.in_ok-check-2.was, ← fields c.args.s.now c.args.at inside, ← c.fields3.ensures, held _ _ _ c.check-3.ensures c.in_ok-check-3.was, ← scan c.args.s.now c.args.at inside, ← c.scan_fields.ensures, held _ _ _ c.check-4.ensures c.in_ok-check-4.was, ← said, ← points) c.check-5.ensures

@@ -29,12 +29,12 @@ pub returns-in_err-check : goal.returns-in_err-check
 unfolding with_lists
 returns-in_err-check c =
     let f = failed _ _ _ c.check.ensures _ c.in_err-check.was c.from_residual.ensures.1 in
-    let short : c.wide-len.result < 61 = leb-false 61 c.wide-len.result f.0 in
-    rw (lt-leb (least4 c.args.s.now c.args.at (rays_at c.args.s.now c.args.x.section3)) (length_at c.args.s.now c.args.at) (omega (arith, short, c.wide-len.ensures, c.length_at.ensures))) f.1
+    let short : c.from-len.result < 61 = leb-false 61 c.from-len.result f.0 in
+    rw (lt-leb (least4 c.args.s.now c.args.at (rays_at c.args.s.now c.args.x.section3)) (length_at c.args.s.now c.args.at) (omega (arith, short, c.from-len.ensures, c.length_at.ensures))) f.1
 
 pub returns-in_err-check-2 : goal.returns-in_err-check-2
 returns-in_err-check-2 c =
-    let len = c.wide-len.ensures ∙ c.length_at.ensures in
+    let len = c.from-len.ensures ∙ c.length_at.ensures in
     let inside = long c.args.s.now c.args.at _ len (held _ _ _ c.check.ensures c.in_ok-check.was) c.requires in
     let f = failed _ _ _ c.check-2.ensures _ c.in_err-check-2.was c.from_residual-in_err-check-2.ensures.1 in
     rw (← len, ← c.rays_at.ensures, ← due c.args.s.now c.args.at c.rays_at.result inside, ← c.with_lists-due.ensures, f.0) f.1
@@ -42,7 +42,7 @@ returns-in_err-check-2 c =
 pub returns : goal.returns
 unfolding rules4
 returns c =
-    let len = c.wide-len.ensures ∙ c.length_at.ensures in
+    let len = c.from-len.ensures ∙ c.length_at.ensures in
     let inside = long c.args.s.now c.args.at _ len (held _ _ _ c.check.ensures c.in_ok-check.was) c.requires in
     let given = rules4 c.parameter_at-parameter.result c.site_at-site.result in
     let fields : c.fields4.result ≡ meets_all c.args.s.now c.args.at given = c.fields4.ensures ∙ part_rules c.args.s.now c.args.at (c.args.at + 61) inside 61 (omega arith) given refl in

@@ -52,5 +52,5 @@ returns-in_err-check-3 c =
 pub returns : goal.returns
 returns c =
     let inside = long c.args.s.now c.args.at _ c.length_at.ensures (held _ _ _ c.check.ensures c.in_ok-check.was) c.requires in
-    let said = c.wide-said.ensures ∙ c.field32.ensures ∙ part_field c.args.s.now c.args.at (c.args.at + 21) inside 6 4 (omega arith) (omega arith) in
+    let said = c.from-said.ensures ∙ c.field.ensures ∙ part_field c.args.s.now c.args.at (c.args.at + 21) inside 6 4 (omega arith) (omega arith) in
     rw (← c.length_at.ensures, held _ _ _ c.check.ensures c.in_ok-check.was, ← fields c.args.s.now c.args.at inside, ← c.fields5.ensures, held _ _ _ c.check-2.ensures c.in_ok-check-2.was, ← packing c.args.s.now c.args.at inside, ← c.packing_ok.ensures, held _ _ _ c.check-3.ensures c.in_ok-check-3.was, ← said, ← c.points_at-points.ensures) c.check-4.ensures

@@ -4,4 +4,4 @@ use Rattle.dual_format.proofs.reference_at.Goals as goal
 
 pub returns : goal.returns
 unfolding reference_at
-returns c = c.field32.ensures
+returns c = c.field.ensures

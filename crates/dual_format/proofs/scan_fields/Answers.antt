@@ -7,6 +7,6 @@ use Rattle.dual_format.proofs.scan_fields.Goals as goal
 
 pub returns : goal.returns
 unfolding scan_rules
-returns c = (both c.within8.ensures
-    c.within8-2.ensures)
+returns c = (both c.within.ensures
+    c.within-2.ensures)
     ∙ flat true c.args.s.now c.args.at scan_rules

@@ -4,4 +4,4 @@ use Rattle.dual_format.proofs.site_at.Goals as goal
 
 pub returns : goal.returns
 unfolding site_at
-returns c = c.field16.ensures
+returns c = c.field.ensures

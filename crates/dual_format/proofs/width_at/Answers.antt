@@ -4,4 +4,4 @@ use Rattle.dual_format.proofs.width_at.Goals as goal
 
 pub returns : goal.returns
 unfolding width_at
-returns c = c.field8.ensures
+returns c = c.field.ensures

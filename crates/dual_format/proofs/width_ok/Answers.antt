@@ -5,4 +5,4 @@ use Rattle.dual_format.proofs.width_ok.Goals as goal
 
 pub returns : goal.returns
 unfolding meets
-returns c = one_of c.within8.ensures c.within8-2.ensures
+returns c = one_of c.within.ensures c.within-2.ensures

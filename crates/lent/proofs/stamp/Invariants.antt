@@ -1,11 +1,6 @@
-use Prim.Native.Nat.{◌-◌, ◌≤◌, ◌<◌}
-use mathlib.Core.Path.{◌≡◌}
-use lib.ListN.{replicate}
+use Rattle.std.proofs.Common.{◌≡◌, ◌-◌, replicate}
 use Rattle.lent.specs.Lent.{placed}
 use Rattle.lent.proofs.stamp.Given as goal
 
 abbrev pub invariant-loop-i : goal.invariant-loop-i
-invariant-loop-i l = (l.lo < l.i) × (l.i ≤ l.hi) × (l.out ≡ placed l.initial.out l.lo (replicate (l.i - l.lo) l.octet))
-
-abbrev pub decreases-loop-i : goal.decreases-loop-i
-decreases-loop-i l = l.hi - l.i
+invariant-loop-i g l = l.out ≡ placed l.initial.out l.lo (replicate (l.i - l.lo) l.x)

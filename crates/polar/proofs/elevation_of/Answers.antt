@@ -13,4 +13,4 @@ returns-then-n-eq65535 c = rw (eq-eqb _ _ c.if-n-eq65535.true)
 
 pub returns-else-n-eq65535 : goal.returns-else-n-eq65535
 unfolding elevation_of
-returns-else-n-eq65535 c = rw (ne_eqb _ _ c.if-n-eq65535.false) (ap Some (to_z-of_z w32 c.signed16.result (record { sfits = c.signed16.type_inv }) ∙ c.signed16.ensures))
+returns-else-n-eq65535 c = rw (ne_eqb _ _ c.if-n-eq65535.false) (ap Some (to_z-of_z w32 c.signed.result (record { sfits = c.signed.type_inv }) ∙ c.signed.ensures))

@@ -5,5 +5,5 @@ use Rattle.polar.proofs.info_of.Goals as goal
 
 pub returns : goal.returns
 unfolding info_of
-returns c = let elevation = c.elevation_of-elevation.ensures ∙ ap elevation_of c.field16.ensures in
-    λ i. record { grid = c.grid_at-grid.ensures i; start_azimuth = c.field16-start_azimuth.ensures i; mode = c.field8-mode.ensures i; elevation = elevation i }
+returns c = let elevation = c.elevation_of-elevation.ensures ∙ ap elevation_of c.field.ensures in
+    λ i. record { grid = c.grid_at-grid.ensures i; start_azimuth = c.field-start_azimuth.ensures i; mode = c.field-mode.ensures i; elevation = elevation i }

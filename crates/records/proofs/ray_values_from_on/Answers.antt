@@ -14,14 +14,14 @@ use Rattle.std.specs.Prelude.{Err, Ok}
 pub returns-in_err-judge_ray : goal.returns-in_err-judge_ray
 unfolding from_on
 returns-in_err-judge_ray c =
-    rw (passed_on _ _ c.from_residual.ensures.1) (record { value = rw (← c.least-room.ensures) (sym (judged_bad Err c.args.c (usable_in c.args.file.now c.args.c c.args.rec) (Ok tt) _ _ _ (sym c.judge_ray.ensures ∙ c.in_err-judge_ray.was))); marks_after = refl; values_after = refl })
+    rw (passed_on _ _ c.from_residual.ensures.1) (record { value = rw (← c.min-room.ensures) (sym (judged_bad Err c.args.c (usable_in c.args.file.now c.args.c c.args.rec) (Ok tt) _ _ _ (sym c.judge_ray.ensures ∙ c.in_err-judge_ray.was))); marks_after = refl; values_after = refl })
 
 pub readings_from-fits-requires : goal.readings_from-fits-requires
 readings_from-fits-requires c =
-    let h = judged_fine _ _ (sym c.judge_ray.ensures ∙ c.in_ok-judge_ray.was) in record { any_data_cut = c.requires; c_in_bounds = both_rooms _ _ _ _ (leb-true _ _ h.1) c.least-room.ensures }
+    let h = judged_fine _ _ (sym c.judge_ray.ensures ∙ c.in_ok-judge_ray.was) in record { any_data_cut = c.requires; c_in_bounds = both_rooms _ _ _ _ (leb-true _ _ h.1) c.min-room.ensures }
 
 pub returns : goal.returns
 unfolding from_on
 returns c =
     let h = judged_fine _ _ (sym c.judge_ray.ensures ∙ c.in_ok-judge_ray.was) in
-    let none = refuse Record c.args.c.section7 in record { value = rw (← c.least-room.ensures, h.0, h.1) (c.check.ensures ∙ ap (λ (x : Bool). cond x (Ok tt) (Err none)) c.readings_from-fits.ensures.value); marks_after = written_if c.readings_from-fits.result none _ _ _ _ c.check.ensures c.readings_from-fits.ensures.marks_after; values_after = written_if c.readings_from-fits.result none _ _ _ _ c.check.ensures c.readings_from-fits.ensures.values_after }
+    let none = refuse Record c.args.c.section7 in record { value = rw (← c.min-room.ensures, h.0, h.1) (c.check.ensures ∙ ap (λ (x : Bool). cond x (Ok tt) (Err none)) c.readings_from-fits.ensures.value); marks_after = written_if c.readings_from-fits.result none _ _ _ _ c.check.ensures c.readings_from-fits.ensures.marks_after; values_after = written_if c.readings_from-fits.result none _ _ _ _ c.check.ensures c.readings_from-fits.ensures.values_after }

@@ -4,4 +4,4 @@ use Rattle.rules.proofs.bins_at.Goals as goal
 
 pub returns : goal.returns
 unfolding bins_at
-returns c = c.field32.ensures
+returns c = c.field.ensures

@@ -8,8 +8,8 @@ use Rattle.rules.proofs.fields0.Goals as goal
 
 pub returns : goal.returns
 unfolding rules0
-returns c = (both (both (both c.within32.ensures
-    c.within8.ensures)
-    c.within8-2.ensures)
-    c.within64.ensures)
+returns c = (both (both (both c.within.ensures
+    c.within-2.ensures)
+    c.within-3.ensures)
+    c.within-4.ensures)
     ∙ flat true c.args.s.now 0 (rules0 (length c.args.s.now))

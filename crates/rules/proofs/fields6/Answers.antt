@@ -7,5 +7,5 @@ use Rattle.rules.proofs.fields6.Goals as goal
 
 pub returns : goal.returns
 unfolding rules6
-returns c = c.within8.ensures
+returns c = c.within.ensures
     ∙ flat true c.args.s.now c.args.at rules6

@@ -7,5 +7,5 @@ use Rattle.rules.proofs.fields8.Goals as goal
 
 pub returns : goal.returns
 unfolding rules8
-returns c = c.within32.ensures
+returns c = c.within.ensures
     ∙ flat true c.args.s.now c.args.at rules8

@@ -6,13 +6,13 @@ use Rattle.rules.proofs.Chains.{both, flat}
 use Rattle.rules.proofs.grid_fields.Goals as goal
 
 pub returns : goal.returns
-returns c = (both (both (both (both (both (both (both (both c.within8.ensures
-    c.within8-2.ensures)
-    c.within8-3.ensures)
-    c.within16.ensures)
-    c.within32.ensures)
-    c.within32-2.ensures)
-    c.magnitude32.ensures)
-    c.within32-3.ensures)
-    c.within32-4.ensures)
+returns c = (both (both (both (both (both (both (both (both c.within.ensures
+    c.within-2.ensures)
+    c.within-3.ensures)
+    c.within-4.ensures)
+    c.within-5.ensures)
+    c.within-6.ensures)
+    c.magnitude.ensures)
+    c.within-7.ensures)
+    c.within-8.ensures)
     ∙ flat true c.args.s.now c.args.at (grid_rules c.args.template)

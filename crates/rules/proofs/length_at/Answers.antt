@@ -4,4 +4,4 @@ use Rattle.rules.proofs.length_at.Goals as goal
 
 pub returns : goal.returns
 unfolding length_at
-returns c = c.field32.ensures
+returns c = c.field.ensures

@@ -4,4 +4,4 @@ use Rattle.rules.proofs.number_at.Goals as goal
 
 pub returns : goal.returns
 unfolding number_at
-returns c = c.field8.ensures
+returns c = c.field.ensures

@@ -4,4 +4,4 @@ use Rattle.rules.proofs.parameter_at.Goals as goal
 
 pub returns : goal.returns
 unfolding parameter_at
-returns c = c.field8.ensures
+returns c = c.field.ensures

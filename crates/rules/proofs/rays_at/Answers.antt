@@ -4,4 +4,4 @@ use Rattle.rules.proofs.rays_at.Goals as goal
 
 pub returns : goal.returns
 unfolding rays_at
-returns c = c.field32.ensures
+returns c = c.field.ensures

@@ -1,5 +1,5 @@
 -- A place that reads as octet k does: inside the file it is that octet, past the file every octet reads 0.
-use mathlib.Core.Path.{refl, sym, ap, ◌∙◌}
+use mathlib.Core.Path.{sym, ap, ◌∙◌}
 use Prim.Native.Nat.{ℕ, ◌+◌, ◌-◌}
 use lib.ListN.{length}
 use Rattle.octets.specs.Octets.{be}
@@ -12,10 +12,6 @@ pub returns-then-s-at : goal.returns-then-s-at
 unfolding field
 returns-then-s-at c w = be_past c.args.s.now (length c.args.s.now) w (omega arith) ∙ sym (be_past c.args.s.now (c.args.at + c.args.k - 1) w (omega arith))
 
-pub returns-then-p-eq0 : goal.returns-then-p-eq0
+pub returns : goal.returns
 unfolding field
-returns-then-p-eq0 c w = ap (λ (p : ℕ). be c.args.s.now p w) (omega arith)
-
-pub returns-else-p-eq0 : goal.returns-else-p-eq0
-unfolding field
-returns-else-p-eq0 c w = refl
+returns c w = ap (λ (p : ℕ). be c.args.s.now p w) (omega (arith, c.saturating_sub.ensures, c.from.ensures))

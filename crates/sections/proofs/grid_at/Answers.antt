@@ -8,12 +8,12 @@ use Rattle.sections.proofs.grid_at.Goals as goal
 
 pub returns : goal.returns
 unfolding grid_at
-returns c = let told = to_z-of_z w32 c.signed32-latitude.result (record { sfits = c.signed32-latitude.type_inv }) ∙ c.signed32-latitude.ensures ∙ ap (signed 4) c.field32.ensures in
+returns c = let told = to_z-of_z w32 c.signed-latitude.result (record { sfits = c.signed-latitude.type_inv }) ∙ c.signed-latitude.ensures ∙ ap (signed 4) c.field.ensures in
     λ i. record {
       nb = c.bins_at-nb.ensures i;
       nr = c.rays_at-nr.ensures i;
       latitude = told i;
-      longitude = c.field32-longitude.ensures i;
-      dx = c.field32-dx.ensures i;
-      dstart = c.field32-dstart.ensures i;
+      longitude = c.field-longitude.ensures i;
+      dx = c.field-dx.ensures i;
+      dstart = c.field-dstart.ensures i;
     }

@@ -1,6 +1,0 @@
--- The number at the spot, which reads as the field.
-use mathlib.Core.Path.{◌∙◌}
-use Rattle.rules.proofs.field32.Goals as goal
-
-pub returns : goal.returns
-returns c = c.be32.ensures ∙ c.spot.ensures 4

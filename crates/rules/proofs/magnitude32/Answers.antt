@@ -1,7 +1,0 @@
--- The remainder by the sign bit is the magnitude.
-use Rattle.rules.specs.Rules.{meets}
-use Rattle.rules.proofs.magnitude32.Goals as goal
-
-pub returns : goal.returns
-unfolding meets
-returns c = rw c.field32.ensures
