@@ -56,7 +56,8 @@ fn put(out: &mut [u32], count: usize, ray: usize, first: usize, len: usize, kind
 //
 // A turn takes a run. The stretch in hand, bins first up to bin of the ray, ends before it if the kinds differ. Where the run reaches the
 // end of the ray, the stretch ends there whatever comes after, and the rest of the run stands on the rays that follow: a turn of the
-// inner loop for each.
+// inner loop for each. Not inlined: beside the reads of a file's fields its loop has too few registers, and the stretches of noise took a tenth longer.
+#[inline(never)]
 fn list_by(
     octets: &[u8],
     v: u8,

@@ -11,11 +11,11 @@ pub const BLOCK: usize = 256;
 // A row beside a block: a place for each octet, and a last one that stays 0.
 pub const ROW: usize = BLOCK + 1;
 
-// An octet's digit, 0 for a level.
+// An octet's digit, 0 for a level: by the same subtraction as `by_itself`, so that both take one; by two of `saturating_sub` the scan of noise took a tenth longer.
 fn digit(o: u8, v: u8) -> u8
     ensures { result ≡ o - v - 1 }
 {
-    o.saturating_sub(v).saturating_sub(1)
+    if o <= v { 0 } else { o - v - 1 }
 }
 
 // What an octet adds where the weight is 1.
