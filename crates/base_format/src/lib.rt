@@ -183,7 +183,10 @@ pub fn judge7(s: &[u8], x: Context, at: usize) -> Result<(), Refusal>
     let to = at + len as usize;
     match scan::scan_runs(&s[from..to], v, bins) {
         Ok(()) => Ok(()),
-        Err(i) => Err(sections::refuse(Why::Data, from + i)),
+        Err(i) => {
+            let place = from + i;
+            Err(sections::refuse(Why::Data, place))
+        }
     }
 }
 

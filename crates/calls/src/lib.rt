@@ -1,5 +1,5 @@
-// What a call on a file comes to, for any format: the file's own refusal; 10 where it has no such cut; or what the call says of the cut. And the answers that calls of
-// several crates give. Below it stand `walks` (the file's checks) and both formats; above it the calls, `polar`, `records` and `dualpol`, which are siblings.
+// What a call on a file comes to, for any format: the file's own refusal; 10 where it has no such cut; or what the call says of the cut.
+// Below it stand `walks` (the file's checks) and both formats; above it the calls, `polar`, `records` and `dualpol`, which are siblings.
 #![tactic(auto)]
 
 ghost use Rattle.std.specs.Prelude.{◌≡◌, true, ◌&&◌, ltb, leb};

@@ -11,7 +11,6 @@ ghost use Rattle.lines.specs.Rooms.{entry_room, line_room};
 ghost use Rattle.lines.specs.Text.{decimal, kind_text, newline, entry_line, entry_lines, head_line, refused_line, end_line};
 ghost use Rattle.lines.specs.Words.{entry_in, entries_in};
 
-
 // How many octets the line of an entry may take.
 pub const ENTRY_ROOM: usize = 82;
 

@@ -25,7 +25,7 @@ summary_of s n c =
 unfoldable pub open_answer : List ℕ → Result Summary Refusal
 open_answer s = on_file Err (λ n c. Ok (summary_of s n c)) (verdict s)
 
--- octets 42-43 of section 4: "(Option ℤ) constant 0xFFFF means missing, not -32767"
+-- octets 42-43 of section 4: "Elevation constant 0xFFFF means missing, not -32767"
 unfoldable pub elevation_of : ℕ → Option ℤ
 elevation_of n = cond (eqb n 0xFFFF) None (Some (signed 2 n))
 

@@ -99,6 +99,9 @@ pub fn scan_runs(octets: &[u8], v: u8, n: usize) -> Result<(), usize>
     let far = by_blocks(octets, v, n);
     match by_runs(&octets[far.at..], v, far.left) {
         Ok(()) => Ok(()),
-        Err(i) => Err(far.at + i),
+        Err(i) => {
+            let place = far.at + i;
+            Err(place)
+        }
     }
 }

@@ -26,8 +26,8 @@ unfolding data_at
 data_scanned s x at len v bins e g p = let span : at + len - (at + 5) ≡ length_at s at - 5 = omega (arith, e) in
     λ i. scanned (g i) (p i) (take (span i) (drop (at + 5) s))
 
-pub overflow_add-from-in-Err : goal.overflow_add-from-in-Err
-overflow_add-from-in-Err c =
+pub overflow_add-place : goal.overflow_add-place
+overflow_add-place c =
     let long = leb-true 6 (length_at c.args.s.now c.args.at) (held _ _ _ c.judge_any7.ensures c.in_ok-judge_any7.was) in
     let off = missed _ _ _ (sym c.in-Err.is ∙ c.scan_runs.ensures ∙ data_scanned c.args.s.now c.args.x c.args.at _ _ _ c.length_at-len.ensures c.greatest_at-v.ensures c.points_at-bins.ensures) in
     record { fits = omega (arith, off.1, fault_upto c.args.s.now c.args.x c.args.at (omega (arith, long)) c.requires.at_in_bounds, c.requires.at_in_bounds) }

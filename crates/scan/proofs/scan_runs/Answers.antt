@@ -12,8 +12,8 @@ use Rattle.scan.proofs.Scanning.{missed}
 use Rattle.scan.proofs.scan_runs.Goals as goal
 use Rattle.std.specs.Prelude.{Result, ⊤}
 
-pub overflow_add-result : goal.overflow_add-result
-overflow_add-result c =
+pub overflow_add-place : goal.overflow_add-place
+overflow_add-place c =
     let behind : (c.by_runs.result ≡ scanned c.args.v c.by_blocks-far.result.left (drop c.by_blocks-far.result.at c.args.octets.now)) = c.by_runs.ensures ∙ ap (λ (l : List ℕ). scanned c.args.v c.by_blocks-far.result.left l) (to_end c.args.octets.now c.by_blocks-far.result.at) in
     let rest : List ℕ = drop c.by_blocks-far.result.at c.args.octets.now in
     let no = missed (gives c.args.v c.by_blocks-far.result.left rest) (fault_at c.args.v c.by_blocks-far.result.left rest) c.in-Err.i (sym c.in-Err.is ∙ behind) in
