@@ -118,7 +118,13 @@ pub fn ray_levels(file: &[u8], i: usize, ray: usize, out: &mut [u8]) -> Result<(
     ray_levels_on(file, calls::find(file, i)?, ray, out)
 }
 
-fn ray_values_on(file: &[u8], c: Cut, ray: usize, marks: &mut [u8], values: &mut [i32]) -> Result<(), Refusal>
+fn ray_values_on(
+    file: &[u8],
+    c: Cut,
+    ray: usize,
+    marks: &mut [u8],
+    values: &mut [i32],
+) -> Result<(), Refusal>
     requires { GoodCut file.now c }
     ensures value { result ≡ ray_on file.now ray (min (length marks.old) (length values.old)) c }
     ensures marks_after { marks.new ≡ if_written result (marks_of (product_in file.now c) (ray_in file.now c ray) marks.old) marks.old }

@@ -54,13 +54,23 @@ pub fn build_index(file: &[u8], i: usize, row: &mut [RayRecord]) -> Result<(), R
 
 // ---- rays by a record
 
-fn ray_levels_from_on(file: &[u8], c: Cut, ray: usize, rec: RayRecord, out: &mut [u8]) -> Result<(), Refusal>
+fn ray_levels_from_on(
+    file: &[u8],
+    c: Cut,
+    ray: usize,
+    rec: RayRecord,
+    out: &mut [u8],
+) -> Result<(), Refusal>
     requires { AnyDataCut file.now c }
     ensures value { result ≡ from_on file.now ray rec (length out.old) c }
     ensures out_after { out.new ≡ if_written result (front (ray_from file.now c rec) out.old) out.old }
 {
     calls::judge_ray(file, c, ray, out.len())?;
-    sections::check(cuts::levels_from(file, c, rec, out), Why::Record, c.section7)
+    sections::check(
+        cuts::levels_from(file, c, rec, out),
+        Why::Record,
+        c.section7,
+    )
 }
 
 // Ray levels by a record: what decoding from there gives, Nb octets at the front of out. The data before it is not looked at.

@@ -130,11 +130,7 @@ pub fn refuse(why: Why, place: usize) -> Refusal
 pub fn check(ok: bool, why: Why, place: usize) -> Result<(), Refusal>
     ensures { result ≡ cond ok (Ok tt) (Err (refuse why place)) }
 {
-    if ok {
-        Ok(())
-    } else {
-        Err(refuse(why, place))
-    }
+    if ok { Ok(()) } else { Err(refuse(why, place)) }
 }
 
 // The place past the section at a place. Past the file a length reads as 0.

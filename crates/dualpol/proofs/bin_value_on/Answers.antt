@@ -15,7 +15,6 @@ unfolding bin_on
 returns-in_err-judge_bin c =
     rw (passed_on _ _ c.from_residual.ensures.1) (record { exact = sym (judged_bad Err c.args.c true _ _ _ _ (sym c.judge_bin.ensures ∙ c.in_err-judge_bin.was)); near = tt })
 
-
 pub told_in-requires : goal.told_in-requires
 told_in-requires c =
     let h = and_true_both _ _ (judged_fine _ _ (sym c.judge_bin.ensures ∙ c.in_ok-judge_bin.was)).0 in

@@ -17,7 +17,6 @@ unfolding bin_on
 returns-in_err-judge_bin c =
     passed_on _ _ c.from_residual.ensures.1 ∙ sym (judged_bad Err c.args.c true _ _ _ _ (sym c.judge_bin.ensures ∙ c.in_err-judge_bin.was))
 
-
 pub level_in-level-requires : goal.level_in-level-requires
 level_in-level-requires c =
     let h = and_true_both _ _ (judged_fine _ _ (sym c.judge_bin.ensures ∙ c.in_ok-judge_bin.was)).0 in record { good_cut = c.requires; ray_bound = (ltb-true _ _ h.0, ltb-true _ _ h.1) }

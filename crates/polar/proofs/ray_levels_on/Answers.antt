@@ -13,7 +13,6 @@ unfolding ray_on
 returns-in_err-judge_ray c =
     rw (passed_on _ _ c.from_residual.ensures.1) (record { value = sym (judged_bad Err c.args.c true (Ok tt) _ _ _ (sym c.judge_ray.ensures ∙ c.in_err-judge_ray.was)); out_after = refl })
 
-
 pub ray_into-requires : goal.ray_into-requires
 ray_into-requires c =
     let h = judged_fine _ _ (sym c.judge_ray.ensures ∙ c.in_ok-judge_ray.was) in record { good_cut = c.requires; ray_bound = (ltb-true _ _ h.0, leb-true _ _ h.1) }

@@ -13,7 +13,6 @@ unfolding ray_on
 returns-in_err-judge_ray c =
     rw (passed_on _ _ c.from_residual.ensures.1) (record { value = rw (← c.min-room.ensures) (sym (judged_bad Err c.args.c true (Ok tt) _ _ _ (sym c.judge_ray.ensures ∙ c.in_err-judge_ray.was))); marks_after = refl; values_after = refl })
 
-
 pub readings_into-requires : goal.readings_into-requires
 readings_into-requires c =
     let h = judged_fine _ _ (sym c.judge_ray.ensures ∙ c.in_ok-judge_ray.was) in

@@ -29,7 +29,6 @@ returns-in_err-judge c =
     c.right_list-right.ensures ∙ ap (right_on c.args.file.now c.args.c c.args.ray c.args.bin) (to_z-of_z w32 c.args.t c.ranges.t) in
     rw (passed_on _ _ c.from_residual.ensures.1) (record { value = rw (← right) (sym (judged_bad Err c.args.c true _ _ _ _ (sym c.judge.ensures ∙ c.in_err-judge.was))); words_after = refl })
 
-
 pub list_into-requires : goal.list_into-requires
 list_into-requires c =
     let h = judged_fine _ _ (sym c.judge.ensures ∙ c.in_ok-judge.was) in
