@@ -90,7 +90,7 @@ fn product_of(parameter: u8) -> Product
     }
 }
 
-// The parameter's number of a product.
+// The parameter's number of a product. No `From`: the number is of this format's section 4, and the impl would have to stand with the enum, in `values`.
 pub fn product_number(product: Product) -> u8
     ensures { result ≡ product_number product }
 {

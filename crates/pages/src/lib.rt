@@ -19,6 +19,7 @@ pub const WORDS: usize = stretches::PER_ENTRY * 8192;
 pub const TEXT: usize = 32768;
 
 // Reads until `buf` is full or the input ends, in however many parts it comes, and returns how many octets it put at the start of `buf`.
+// By a loop: the library's `read_to_end` fills a Vec, and there is no heap here.
 pub fn read_full<R: Read>(from: &mut R, buf: &mut [u8]) -> io::Result<usize>
     ensures { ReadsAtMost result buf.new }
 {

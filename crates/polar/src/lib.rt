@@ -218,7 +218,7 @@ pub fn stretches(
     stretches_on(file, calls::find(file, i)?, t, ray, bin, words)
 }
 
-// The house form.
+// The house form: a function of its own for the C interface, which has it as a call.
 pub fn house_stretches(
     file: &[u8],
     i: usize,

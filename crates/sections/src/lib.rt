@@ -250,7 +250,8 @@ pub fn is_closed(s: &[u8], x: Context, at: usize) -> bool
     (x.previous == 7) & rules::fields8(s, at)
 }
 
-// The sections that every format has: the length first, then the fields, read in the part of the file that is the section.
+// The sections that every format has: the length first, then the fields, read in the part of the file that is the section. Two functions: one that took the
+// length and the fields' function would be no plainer than these two lines.
 
 pub fn judge1(s: &[u8], at: usize) -> Result<(), Refusal>
     requires { at + length_at s.now at ≤ length s.now }

@@ -27,7 +27,8 @@ pub enum Product {
     Velocity,
 }
 
-// What a level tells: nothing, or a number of hundredths.
+// What a level tells: nothing, or a number of hundredths. No Option: a level tells one of named things, of which FORMAT.md, "To come", gives reflectivity a
+// third, and to say missing by `None` would be no plainer.
 #[derive(Clone, Copy)]
 pub enum Reading {
     Missing,
