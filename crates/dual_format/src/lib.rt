@@ -13,9 +13,10 @@ ghost use Rattle.scaled.specs.Scaled.{finite_single};
 ghost use Rattle.sections.specs.Verdict.{first_fault};
 ghost use Rattle.dual_format.specs.Rules.{rules3, scan_rules, rules4, rules5, width_rule};
 ghost use Rattle.dual_format.specs.Fields.{site_at, with_lists, reference_at, binary_scale_at, decimal_scale_at, width_at, length7};
-ghost use Rattle.dual_format.specs.Checks.{checks3, checks4, checks5, checks7, dual_checks};
+ghost use Rattle.dual_format.specs.Checks.{checks3, checks4, checks5, dual_checks};
+ghost use Rattle.dual_format.specs.Ready.{FewPoints, few_ready};
 
-use sections::{Context, Refusal, Why};
+use sections::{Context, FileFormat, Refusal, Why};
 
 // The field rules of each section, as one chain of tests without branches.
 
@@ -164,25 +165,28 @@ fn judge5(s: &[u8], x: Context, at: usize) -> Result<(), Refusal>
     sections::check(said == points, Why::Points, at)
 }
 
-pub fn judge7(s: &[u8], x: Context, at: usize) -> Result<(), Refusal>
-    requires { points_at s.now x.section3 ≤ 2097152 }
-    ensures { result ≡ first_fault (checks7 s.now x at) }
-{
-    let len = u64::from(rules::length_at(s, at));
-    let due = length7_at(s, x.section3, x.section5);
-    sections::check(len == due, Why::SectionLength, at)
-}
+// Dual-polarisation files.
+pub struct DualPolarisation;
 
-// The checks of a section of the format's own other than a 7, which has its function above.
-pub fn judge(s: &[u8], x: Context, at: usize, n: u8) -> Result<(), Refusal>
-    requires at_in_bounds { at + length_at s.now at ≤ length s.now }
-    requires fact { n ≡ 7 → ⊥ }
-    ensures { result ≡ first_fault (dual_checks s.now x at n) }
-{
-    match n {
-        3 => judge3(s, at),
-        4 => judge4(s, x, at),
-        5 => judge5(s, x, at),
-        _ => Ok(()),
+impl FileFormat for DualPolarisation {
+    ghost own = { dual_checks };
+
+    ghost Ready = { FewPoints };
+
+    ghost ready_before_7 = { few_ready };
+
+    fn judge(s: &[u8], x: Context, at: usize, n: u8) -> Result<(), Refusal> {
+        match n {
+            3 => judge3(s, at),
+            4 => judge4(s, x, at),
+            5 => judge5(s, x, at),
+            _ => Ok(()),
+        }
+    }
+
+    fn judge7(s: &[u8], x: Context, at: usize) -> Result<(), Refusal> {
+        let len = u64::from(rules::length_at(s, at));
+        let due = length7_at(s, x.section3, x.section5);
+        sections::check(len == due, Why::SectionLength, at)
     }
 }
