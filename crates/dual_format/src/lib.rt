@@ -1,6 +1,6 @@
 // Dual-polarisation files: FORMAT.md, "Dual-polarisation files", of sections 3, 4, 5 and 7, which are this format's own. Below it stand `sections` (what
-// every file has), `rules` (the base format's rules on fields, of which it shares some) and `scaled` (R, and what a cell tells); above it `walks`, which
-// walks over a file, and `dualpol`, the calls.
+// every file has), `rules` (the base format's rules on fields, of which it shares some) and `scaled` (R, and what a cell tells); above it `dualpol`, the
+// calls, for which `walks` goes over a file by these checks.
 //
 // What is to be believed stands in specs/Accepted.antt, by the octets of each section, and in specs/Checks.antt, by places and in the order of checks,
 // with the rule lists of specs/Rules.antt; proofs/Exact.antt has the theorems that `verdict` accepts and refuses exactly these files.
@@ -13,7 +13,7 @@ ghost use Rattle.scaled.specs.Scaled.{finite_single};
 ghost use Rattle.sections.specs.Verdict.{first_fault};
 ghost use Rattle.dual_format.specs.Rules.{rules3, scan_rules, rules4, rules5, width_rule};
 ghost use Rattle.dual_format.specs.Fields.{site_at, with_lists, reference_at, binary_scale_at, decimal_scale_at, width_at, length7};
-ghost use Rattle.dual_format.specs.Checks.{checks3, checks4, checks5, dual_checks};
+ghost use Rattle.dual_format.specs.Checks.{checks3, checks4, checks5, checks7, dual_checks};
 ghost use Rattle.dual_format.specs.Ready.{FewPoints, few_ready};
 
 use sections::{Context, FileFormat, Refusal, Why};
@@ -165,7 +165,7 @@ fn judge5(s: &[u8], x: Context, at: usize) -> Result<(), Refusal>
     sections::check(said == points, Why::Points, at)
 }
 
-// Dual-polarisation files.
+// Dual-polarisation files, as the walk reads them.
 pub struct DualPolarisation;
 
 impl FileFormat for DualPolarisation {
@@ -184,7 +184,10 @@ impl FileFormat for DualPolarisation {
         }
     }
 
-    fn judge7(s: &[u8], x: Context, at: usize) -> Result<(), Refusal> {
+    fn judge7(s: &[u8], x: Context, at: usize) -> Result<(), Refusal>
+        requires { FewPoints s.now x }
+        ensures { result ≡ first_fault (checks7 s.now x at) }
+    {
         let len = u64::from(rules::length_at(s, at));
         let due = length7_at(s, x.section3, x.section5);
         sections::check(len == due, Why::SectionLength, at)
