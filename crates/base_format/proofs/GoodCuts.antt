@@ -10,7 +10,7 @@ use lib.ListN.{length, get_or}
 use Rattle.base_format.specs.Rules.{scan_rules, rules3}
 use Rattle.rules.specs.Fields.{bins_at, rays_at, points_at}
 use Rattle.rules.proofs.Bounds.{bins_bound, rays_bound}
-use Rattle.base_format.proofs.Bounds.{greatest_bound}
+use Rattle.base_format.specs.Ready.{greatest_bound}
 use Rattle.runs.specs.Run.{gives}
 use Rattle.values.specs.Published.{level_count}
 use Rattle.sections.specs.Parts.{bins_in, rays_in}

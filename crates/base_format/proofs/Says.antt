@@ -9,10 +9,9 @@ use borrow.Author.Tests.{eqb-true}
 use lib.Dec.{eqb}
 use lib.ListN.{drop}
 use Rattle.rules.specs.Rules.{meets_all}
-use Rattle.base_format.specs.Rules.{scan_rules, rules3, rules4, rules5}
+use Rattle.base_format.specs.Rules.{rules4, rules5}
 use Rattle.rules.specs.Fields.{length_at, rays_at, points_at, parameter_at}
 use Rattle.base_format.specs.Fields.{site_at, greatest_at, count_at}
-use Rattle.rules.proofs.Bounds.{points_bound}
 use Rattle.runs.specs.Run.{gives}
 use Rattle.runs.proofs.Meaning.{gives_exactly, exactly_gives}
 use Rattle.values.specs.declared.Product.{Product}
@@ -109,11 +108,6 @@ says =
       long_four = long_four;
       four_long = λ first s3 s4 k. let l = k.long in omega arith;
     }
-
--- a section 3 that passes has few points
-pub few_points : (s : List ℕ) (x : Context) (at : ℕ) → AllHold (base_checks s x at 3) → points_at s at ≤ 2097152
-unfolding rules3 base_checks
-few_points s x at h = points_bound s at 50120 scan_rules h.1.0
 
 -- and each check names a place of the section, or its end
 pub own_inside : OwnInside base_checks

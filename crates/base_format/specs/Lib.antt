@@ -5,3 +5,4 @@ pub mod Checks
 pub mod Verdict
 pub mod Accepted
 pub mod Good
+pub mod Ready

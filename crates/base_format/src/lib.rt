@@ -1,5 +1,5 @@
 // Run-length packed files: FORMAT.md, "Sections", of sections 3, 4, 5 and 7, which are this format's own. Below it stand `sections` (what every
-// file has), `rules` (the fields of each section), `runs` and `scan` (the data) and `values` (the value table); above it `walks`, which walks over a file.
+// file has), `rules` (the fields of each section), `runs` and `scan` (the data) and `values` (the value table); above it the calls, for which `walks` goes over a file by these checks.
 //
 // What is to be believed stands in specs/Accepted.antt, by the octets of each section, and in specs/Checks.antt, by places and in the order of checks,
 // with the rule lists of specs/Rules.antt; proofs/Exact.antt has the theorems that `verdict` accepts and refuses exactly these files.
@@ -13,9 +13,10 @@ ghost use Rattle.rules.specs.Rules.{meets, meets_all, within, magnitude, either}
 ghost use Rattle.base_format.specs.Rules.{rules3, rules4, rules5};
 ghost use Rattle.base_format.specs.Fields.{site_at, greatest_at, count_at};
 ghost use Rattle.base_format.specs.Parts.{product_of, product_number, table_at, product_in};
-ghost use Rattle.base_format.specs.Checks.{checks3, checks4, checks5, past_length5, checks7, base_checks, any_data_checks7};
+ghost use Rattle.base_format.specs.Checks.{checks3, checks4, checks5, past_length5, checks7, base_checks, any_data_checks7, any_data_checks};
+ghost use Rattle.base_format.specs.Ready.{DataReady, data_ready, NothingAsked, nothing_asked};
 
-use sections::{Context, Cut, Refusal, Why};
+use sections::{Context, Cut, FileFormat, Refusal, Why};
 use values::Product;
 
 // The fields that other sections and the calls go by: each octet number stands here alone.
@@ -169,44 +170,64 @@ fn judge5(s: &[u8], x: Context, at: usize) -> Result<(), Refusal>
     judge5_fields(s, x, at)
 }
 
-// The checks before it have held the bins and V to what a scan takes. The data is the section's octets from the sixth on, and the place of 8 is the octet at fault.
-pub fn judge7(s: &[u8], x: Context, at: usize) -> Result<(), Refusal>
-    requires at_in_bounds { at + length_at s.now at ≤ length s.now }
-    requires section3_bound { (points_at s.now x.section3 ≤ 2097152) × (greatest_at s.now x.section5 ≤ 252) }
-    ensures { result ≡ first_fault (checks7 s.now x at) }
-{
-    judge_any7(s, at)?;
-    let len = rules::length_at(s, at);
-    let v = greatest_at(s, x.section5) as u8;
-    let bins = rules::points_at(s, x.section3) as usize;
-    let from = at + 5;
-    let to = at + len as usize;
-    match scan::scan_runs(&s[from..to], v, bins) {
-        Ok(()) => Ok(()),
-        Err(i) => {
-            let place = from + i;
-            Err(sections::refuse(Why::Data, place))
+// Run-length packed files, as the walk reads them.
+pub struct RunLength;
+
+impl FileFormat for RunLength {
+    ghost own = { base_checks };
+
+    ghost Ready = { DataReady };
+
+    ghost ready_before_7 = { data_ready };
+
+    fn judge(s: &[u8], x: Context, at: usize, n: u8) -> Result<(), Refusal> {
+        match n {
+            3 => judge3(s, at),
+            4 => judge4(s, x, at),
+            5 => judge5(s, x, at),
+            _ => Ok(()),
+        }
+    }
+
+    // The checks before it have held the bins and V to what a scan takes. The data is the section's octets from the sixth on, and the place of 8 is the octet at fault.
+    fn judge7(s: &[u8], x: Context, at: usize) -> Result<(), Refusal>
+        requires at_in_bounds { at + length_at s.now at ≤ length s.now }
+        requires ready { DataReady s.now x }
+        ensures { result ≡ first_fault (checks7 s.now x at) }
+    {
+        RunLengthAnyData::judge7(s, x, at)?;
+        let len = rules::length_at(s, at);
+        let v = greatest_at(s, x.section5) as u8;
+        let bins = rules::points_at(s, x.section3) as usize;
+        let from = at + 5;
+        let to = at + len as usize;
+        match scan::scan_runs(&s[from..to], v, bins) {
+            Ok(()) => Ok(()),
+            Err(i) => {
+                let place = from + i;
+                Err(sections::refuse(Why::Data, place))
+            }
         }
     }
 }
 
-// The same but for the data.
-pub fn judge_any7(s: &[u8], at: usize) -> Result<(), Refusal>
-    ensures { result ≡ first_fault (any_data_checks7 s.now at) }
-{
-    sections::check(6 <= rules::length_at(s, at), Why::SectionLength, at)
-}
+// The same, where the data may be anything.
+pub struct RunLengthAnyData;
 
-// The checks of a section of the format's own other than a 7, which has its functions above.
-pub fn judge(s: &[u8], x: Context, at: usize, n: u8) -> Result<(), Refusal>
-    requires at_in_bounds { at + length_at s.now at ≤ length s.now }
-    requires fact { n ≡ 7 → ⊥ }
-    ensures { result ≡ first_fault (base_checks s.now x at n) }
-{
-    match n {
-        3 => judge3(s, at),
-        4 => judge4(s, x, at),
-        5 => judge5(s, x, at),
-        _ => Ok(()),
+impl FileFormat for RunLengthAnyData {
+    ghost own = { any_data_checks };
+
+    ghost Ready = { NothingAsked };
+
+    ghost ready_before_7 = { nothing_asked };
+
+    fn judge(s: &[u8], x: Context, at: usize, n: u8) -> Result<(), Refusal> {
+        RunLength::judge(s, x, at, n)
+    }
+
+    fn judge7(s: &[u8], x: Context, at: usize) -> Result<(), Refusal>
+        ensures { result ≡ first_fault (any_data_checks7 s.now at) }
+    {
+        sections::check(6 <= rules::length_at(s, at), Why::SectionLength, at)
     }
 }

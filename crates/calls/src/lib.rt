@@ -4,11 +4,10 @@
 
 ghost use Rattle.std.specs.Prelude.{◌≡◌, true, ◌&&◌, ltb, leb};
 ghost use Rattle.sections.specs.Parts.{bins_in, rays_in};
-ghost use Rattle.base_format.specs.Verdict.{verdict, any_data_verdict};
-ghost use Rattle.dual_format.specs.Verdict.{verdict as dual_verdict};
+ghost use Rattle.sections.specs.Verdict.{verdict_by};
 ghost use Rattle.calls.specs.Cuts.{sought_in, sought_by, judged_by};
 
-use sections::{Cut, Refusal, Why};
+use sections::{Cut, FileFormat, Refusal, Why};
 use walks::Found;
 
 // The cut that was asked for, where the file has so many.
@@ -19,25 +18,11 @@ fn sought_by(found: Found, i: usize) -> Result<Cut, Refusal>
     Ok(found.cut)
 }
 
-// Cut i of a run-length packed file.
-pub fn find(file: &[u8], i: usize) -> Result<Cut, Refusal>
-    ensures { result ≡ sought_in i (verdict file.now) }
+// Cut i of a file of a format.
+pub fn find<F: FileFormat>(file: &[u8], i: usize) -> Result<Cut, Refusal>
+    ensures { result ≡ sought_in i (verdict_by F.own file.now) }
 {
-    sought_by(walks::walk(file, i)?, i)
-}
-
-// The same of a dual-polarisation file.
-pub fn find_dual(file: &[u8], i: usize) -> Result<Cut, Refusal>
-    ensures { result ≡ sought_in i (dual_verdict file.now) }
-{
-    sought_by(walks::walk_dual(file, i)?, i)
-}
-
-// The same of a run-length packed file whose data may be anything.
-pub fn find_any(file: &[u8], i: usize) -> Result<Cut, Refusal>
-    ensures { result ≡ sought_in i (any_data_verdict file.now) }
-{
-    sought_by(walks::walk_any(file, i)?, i)
+    sought_by(walks::walk::<F>(file, i)?, i)
 }
 
 // What a call asks of its arguments and of the room that it is lent: 10, then 11.

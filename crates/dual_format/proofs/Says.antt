@@ -11,7 +11,6 @@ use native.Mathlib.Omega.{arith}
 use Rattle.rules.specs.Rules.{meets, meets_all}
 use Rattle.rules.specs.Fields.{length_at, rays_at, points_at, parameter_at}
 use Rattle.rules.proofs.Chains.{and_true_both, both}
-use Rattle.rules.proofs.Bounds.{points_bound}
 use Rattle.scaled.specs.Scaled.{finite_single}
 use Rattle.sections.specs.Refusal.{refuse}
 use Rattle.sections.specs.declared.Context.{Context}
@@ -22,7 +21,7 @@ use Rattle.sections.proofs.Alike.{field_alike, rays_alike, points_alike, paramet
 use Rattle.sections.proofs.Asks.{also, alike, equal, lengths, leasts, done, named}
 use Rattle.sections.proofs.Says.{Says}
 use Rattle.sections.proofs.Inside.{either, OwnInside}
-use Rattle.dual_format.specs.Rules.{flag_rules, rules3, rules4, width_rule}
+use Rattle.dual_format.specs.Rules.{rules4, width_rule}
 use Rattle.dual_format.specs.Fields.{with_lists, length3, least4, site_at, reference_at, width_at, length7}
 use Rattle.dual_format.specs.Checks.{dual_checks}
 use Rattle.dual_format.specs.Accepted.{Section3, Section4, Section5, Section7, dual_format}
@@ -112,11 +111,6 @@ says =
       long_four = long_four;
       four_long = λ first s3 s4 k. let l = k.long in let n = lists_long 61 56 57 s4 0 (rays_at s3 0) in omega arith;
     }
-
--- a section 3 that passes has few points
-pub few_points : (s : List ℕ) (x : Context) (at : ℕ) → AllHold (dual_checks s x at 3) → points_at s at ≤ 2097152
-unfolding rules3 dual_checks
-few_points s x at h = points_bound s at 50121 flag_rules h.1.0
 
 -- and each check names the section's place, which is one of its own
 pub own_inside : OwnInside dual_checks

@@ -5,3 +5,4 @@ pub mod Verdict
 pub mod Accepted
 pub mod Parts
 pub mod Good
+pub mod Ready

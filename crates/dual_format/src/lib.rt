@@ -1,6 +1,6 @@
 // Dual-polarisation files: FORMAT.md, "Dual-polarisation files", of sections 3, 4, 5 and 7, which are this format's own. Below it stand `sections` (what
-// every file has), `rules` (the base format's rules on fields, of which it shares some) and `scaled` (R, and what a cell tells); above it `walks`, which
-// walks over a file, and `dualpol`, the calls.
+// every file has), `rules` (the base format's rules on fields, of which it shares some) and `scaled` (R, and what a cell tells); above it `dualpol`, the
+// calls, for which `walks` goes over a file by these checks.
 //
 // What is to be believed stands in specs/Accepted.antt, by the octets of each section, and in specs/Checks.antt, by places and in the order of checks,
 // with the rule lists of specs/Rules.antt; proofs/Exact.antt has the theorems that `verdict` accepts and refuses exactly these files.
@@ -14,8 +14,9 @@ ghost use Rattle.sections.specs.Verdict.{first_fault};
 ghost use Rattle.dual_format.specs.Rules.{rules3, scan_rules, rules4, rules5, width_rule};
 ghost use Rattle.dual_format.specs.Fields.{site_at, with_lists, reference_at, binary_scale_at, decimal_scale_at, width_at, length7};
 ghost use Rattle.dual_format.specs.Checks.{checks3, checks4, checks5, checks7, dual_checks};
+ghost use Rattle.dual_format.specs.Ready.{FewPoints, few_ready};
 
-use sections::{Context, Refusal, Why};
+use sections::{Context, FileFormat, Refusal, Why};
 
 // The field rules of each section, as one chain of tests without branches.
 
@@ -164,25 +165,31 @@ fn judge5(s: &[u8], x: Context, at: usize) -> Result<(), Refusal>
     sections::check(said == points, Why::Points, at)
 }
 
-pub fn judge7(s: &[u8], x: Context, at: usize) -> Result<(), Refusal>
-    requires { points_at s.now x.section3 ≤ 2097152 }
-    ensures { result ≡ first_fault (checks7 s.now x at) }
-{
-    let len = u64::from(rules::length_at(s, at));
-    let due = length7_at(s, x.section3, x.section5);
-    sections::check(len == due, Why::SectionLength, at)
-}
+// Dual-polarisation files, as the walk reads them.
+pub struct DualPolarisation;
 
-// The checks of a section of the format's own other than a 7, which has its function above.
-pub fn judge(s: &[u8], x: Context, at: usize, n: u8) -> Result<(), Refusal>
-    requires at_in_bounds { at + length_at s.now at ≤ length s.now }
-    requires fact { n ≡ 7 → ⊥ }
-    ensures { result ≡ first_fault (dual_checks s.now x at n) }
-{
-    match n {
-        3 => judge3(s, at),
-        4 => judge4(s, x, at),
-        5 => judge5(s, x, at),
-        _ => Ok(()),
+impl FileFormat for DualPolarisation {
+    ghost own = { dual_checks };
+
+    ghost Ready = { FewPoints };
+
+    ghost ready_before_7 = { few_ready };
+
+    fn judge(s: &[u8], x: Context, at: usize, n: u8) -> Result<(), Refusal> {
+        match n {
+            3 => judge3(s, at),
+            4 => judge4(s, x, at),
+            5 => judge5(s, x, at),
+            _ => Ok(()),
+        }
+    }
+
+    fn judge7(s: &[u8], x: Context, at: usize) -> Result<(), Refusal>
+        requires { FewPoints s.now x }
+        ensures { result ≡ first_fault (checks7 s.now x at) }
+    {
+        let len = u64::from(rules::length_at(s, at));
+        let due = length7_at(s, x.section3, x.section5);
+        sections::check(len == due, Why::SectionLength, at)
     }
 }

@@ -11,6 +11,7 @@ ghost use Rattle.dual_format.specs.Parts.{reference_in, binary_scale_in, decimal
 ghost use Rattle.dual_format.specs.Good.{GoodCut};
 ghost use Rattle.dualpol.specs.Answers.{summary_of, OpenPromise, CutPromise, bin_on, RightIn, BinPromise};
 
+use dual_format::DualPolarisation;
 use sections::{Cut, Grid, Refusal, Time};
 
 // What is common to all cuts of a file.
@@ -43,7 +44,7 @@ fn summary_of(file: &[u8], n: usize, c: Cut) -> DualSummary
 pub fn open(file: &[u8]) -> Result<DualSummary, Refusal>
     ensures { OpenPromise file.now result }
 {
-    let found = walks::walk_dual(file, 0)?;
+    let found = walks::walk::<DualPolarisation>(file, 0)?;
     Ok(summary_of(file, found.cuts, found.cut))
 }
 
@@ -51,7 +52,7 @@ pub fn open(file: &[u8]) -> Result<DualSummary, Refusal>
 pub fn cut_info(file: &[u8], i: usize) -> Result<Grid, Refusal>
     ensures { CutPromise file.now i result }
 {
-    let c = calls::find_dual(file, i)?;
+    let c = calls::find::<DualPolarisation>(file, i)?;
     Ok(sections::grid_at(file, c.section3))
 }
 
@@ -97,5 +98,5 @@ fn bin_value_on(file: &[u8], c: Cut, ray: usize, bin: usize) -> Result<Option<f6
 pub fn bin_value(file: &[u8], i: usize, ray: usize, bin: usize) -> Result<Option<f64>, Refusal>
     ensures { BinPromise file.now i ray bin result }
 {
-    bin_value_on(file, calls::find_dual(file, i)?, ray, bin)
+    bin_value_on(file, calls::find::<DualPolarisation>(file, i)?, ray, bin)
 }

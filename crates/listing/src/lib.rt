@@ -12,6 +12,7 @@ ghost use Rattle.lines.specs.Rooms.{line_room};
 ghost use Rattle.listing.specs.Listing.{head_of, text_of};
 ghost use Rattle.listing.specs.Progress.{step_room, cut_begun, text_from, part_text, finished, rank, AtCut, Listed, InWords, Sound, ToCome, StepTo, Paged};
 
+use base_format::RunLength;
 use sections::{Cut, Refusal, Why};
 use stretches::Listing;
 
@@ -86,7 +87,7 @@ pub fn start(file: &[u8]) -> Progress
     if LARGEST < file.len() {
         return Progress::Refused(sections::refuse(Why::FileSize, 0));
     }
-    match walks::walk(file, 0) {
+    match walks::walk::<RunLength>(file, 0) {
         Ok(found) => Progress::Head(cut_begun(0, found.cuts, found.cut, 0)),
         Err(refusal) => Progress::Refused(refusal),
     }

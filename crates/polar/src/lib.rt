@@ -17,6 +17,7 @@ ghost use Rattle.polar.specs.Rays.{ray_on, bin_of, bin_on};
 ghost use Rattle.polar.specs.Stretching.{stretches_on, if_listed, house};
 ghost use Rattle.polar.specs.Promises.{OpenPromise, CutPromise, LevelsPromise, ValuesPromise, BinPromise, StretchesPromise};
 
+use base_format::RunLength;
 use sections::{Cut, Grid, Refusal, Time};
 use stretches::Listing;
 use values::{Product, Reading};
@@ -60,7 +61,7 @@ fn summary_of(file: &[u8], n: usize, c: Cut) -> Summary
 pub fn open(file: &[u8]) -> Result<Summary, Refusal>
     ensures { OpenPromise file.now result }
 {
-    let found = walks::walk(file, 0)?;
+    let found = walks::walk::<RunLength>(file, 0)?;
     Ok(summary_of(file, found.cuts, found.cut))
 }
 
@@ -95,7 +96,7 @@ fn info_of(file: &[u8], c: Cut) -> CutInfo
 pub fn cut_info(file: &[u8], i: usize) -> Result<CutInfo, Refusal>
     ensures { CutPromise file.now i result }
 {
-    let c = calls::find(file, i)?;
+    let c = calls::find::<RunLength>(file, i)?;
     Ok(info_of(file, c))
 }
 
@@ -115,7 +116,7 @@ fn ray_levels_on(file: &[u8], c: Cut, ray: usize, out: &mut [u8]) -> Result<(), 
 pub fn ray_levels(file: &[u8], i: usize, ray: usize, out: &mut [u8]) -> Result<(), Refusal>
     ensures { LevelsPromise file.now i ray out.old result out.new }
 {
-    ray_levels_on(file, calls::find(file, i)?, ray, out)
+    ray_levels_on(file, calls::find::<RunLength>(file, i)?, ray, out)
 }
 
 fn ray_values_on(
@@ -146,7 +147,7 @@ pub fn ray_values(
 ) -> Result<(), Refusal>
     ensures { ValuesPromise file.now i ray marks.old values.old result marks.new values.new }
 {
-    ray_values_on(file, calls::find(file, i)?, ray, marks, values)
+    ray_values_on(file, calls::find::<RunLength>(file, i)?, ray, marks, values)
 }
 
 // A reading as the bin call answers it.
@@ -173,7 +174,7 @@ fn bin_value_on(file: &[u8], c: Cut, ray: usize, bin: usize) -> Result<Option<f6
 pub fn bin_value(file: &[u8], i: usize, ray: usize, bin: usize) -> Result<Option<f64>, Refusal>
     ensures { BinPromise file.now i ray bin result }
 {
-    bin_value_on(file, calls::find(file, i)?, ray, bin)
+    bin_value_on(file, calls::find::<RunLength>(file, i)?, ray, bin)
 }
 
 // ---- stretches
@@ -215,7 +216,7 @@ pub fn stretches(
 ) -> Result<Listing, Refusal>
     ensures { StretchesPromise file.now i t ray bin words.old result words.new }
 {
-    stretches_on(file, calls::find(file, i)?, t, ray, bin, words)
+    stretches_on(file, calls::find::<RunLength>(file, i)?, t, ray, bin, words)
 }
 
 // The house form: a function of its own for the C interface, which has it as a call.

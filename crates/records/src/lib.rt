@@ -17,6 +17,7 @@ ghost use Rattle.records.specs.Records.{from_on, build_on};
 ghost use Rattle.records.specs.Promises.{BuildPromise, LevelsFromPromise, ValuesFromPromise};
 ghost use Rattle.records.specs.Building.{start_in};
 
+use base_format::{RunLength, RunLengthAnyData};
 use index::{Pace, RayRecord};
 use sections::{Cut, Refusal, Why};
 
@@ -49,7 +50,7 @@ fn build_on(file: &[u8], c: Cut, row: &mut [RayRecord]) -> Result<(), Refusal>
 pub fn build_index(file: &[u8], i: usize, row: &mut [RayRecord]) -> Result<(), Refusal>
     ensures { BuildPromise file.now i row.old result row.new }
 {
-    build_on(file, calls::find(file, i)?, row)
+    build_on(file, calls::find::<RunLength>(file, i)?, row)
 }
 
 // ---- rays by a record
@@ -83,7 +84,13 @@ pub fn ray_levels_from(
 ) -> Result<(), Refusal>
     ensures { LevelsFromPromise file.now i ray rec out.old result out.new }
 {
-    ray_levels_from_on(file, calls::find_any(file, i)?, ray, rec, out)
+    ray_levels_from_on(
+        file,
+        calls::find::<RunLengthAnyData>(file, i)?,
+        ray,
+        rec,
+        out,
+    )
 }
 
 fn ray_values_from_on(
@@ -116,5 +123,12 @@ pub fn ray_values_from(
 ) -> Result<(), Refusal>
     ensures { ValuesFromPromise file.now i ray rec marks.old values.old result marks.new values.new }
 {
-    ray_values_from_on(file, calls::find_any(file, i)?, ray, rec, marks, values)
+    ray_values_from_on(
+        file,
+        calls::find::<RunLengthAnyData>(file, i)?,
+        ray,
+        rec,
+        marks,
+        values,
+    )
 }

@@ -6,3 +6,4 @@ pub mod Verdict
 pub mod Accepted
 pub mod Refused
 pub mod Exact
+pub mod Ready

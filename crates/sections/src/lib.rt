@@ -10,7 +10,8 @@ ghost use Rattle.std.specs.Prelude.{◌≡◌, cond, ◌+◌, ◌≤◌, length,
 ghost use Rattle.rules.specs.Fields.{length_at};
 ghost use Rattle.sections.specs.Refusal.{number_of, refuse};
 ghost use Rattle.sections.specs.Parts.{bins_in, rays_in, time_of, grid_at};
-ghost use Rattle.sections.specs.Checks.{follows, framed, room_for_cut, closes, checks1, checks6};
+ghost use Rattle.sections.specs.Checks.{FormatChecks, follows, framed, room_for_cut, closes, checks1, checks6};
+ghost use Rattle.sections.specs.Ready.{Needs, ReadyBefore7};
 ghost use Rattle.sections.specs.Verdict.{first_fault};
 
 // Why a call on a file is refused: one case for each number of specs/Refusal.antt. (12 is of the run calls alone: section 5 holds V.)
@@ -95,6 +96,30 @@ pub struct Context {
     pub section3: usize,
     pub section4: usize,
     pub section5: usize,
+}
+
+// What a file may be read as: a format, by the checks of the sections that are its own. The walk is written once, for any of them.
+pub trait FileFormat {
+    // the checks of its own sections, by the section's number
+    ghost own: { FormatChecks };
+
+    // what its checks of a section 7 go by, of the sections before it
+    ghost Ready: { Needs };
+
+    // The checks of its own sections other than a 7.
+    fn judge(s: &[u8], x: Context, at: usize, n: u8) -> Result<(), Refusal>
+        requires at_in_bounds { at + length_at s.now at ≤ length s.now }
+        requires fact { n ≡ 7 → ⊥ }
+        ensures { result ≡ first_fault (own s.now x at n) };
+
+    // The checks of a section 7.
+    fn judge7(s: &[u8], x: Context, at: usize) -> Result<(), Refusal>
+        requires at_in_bounds { at + length_at s.now at ≤ length s.now }
+        requires ready { Ready s.now x }
+        ensures { result ≡ first_fault (own s.now x at 7) };
+
+    // Where the sections before a 7 have passed, all is ready for it.
+    ghost ready_before_7: { ReadyBefore7 own Ready };
 }
 
 // The number of each in FORMAT.md, "Refusals".

@@ -1,4 +1,3 @@
-pub mod Formats
 pub mod Answer
 pub mod Places
 pub mod Walk

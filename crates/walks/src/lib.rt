@@ -1,34 +1,23 @@
 // The walk over the sections of a file, which answers the verdict on any octets: accepted, with the number of cuts and the places of one cut's sections;
-// or the refusal. One walk for both formats, which differ in the checks of their own sections alone. Below it stand `sections` (what every file has),
-// `base_format` (run-length packed files) and `dual_format` (dual-polarisation files); above it `calls`, by which every call finds its cut, and `listing`.
+// or the refusal. One walk for any format, as the formats differ in the checks of their own sections alone. Below it stands `sections` (what every file has, and what
+// a format is); above it `calls`, by which every call finds its cut, and `listing`.
 #![tactic(auto)]
 
 ghost use Rattle.std.specs.Prelude.{◌≡◌, [], ◌+◌, ◌^◌, ◌≤◌, ◌<◌, length};
 ghost use Rattle.rules.specs.Fields.{length_at};
 ghost use Rattle.sections.specs.Checks.{section_checks, checks_at};
 ghost use Rattle.sections.specs.Verdict.{first_fault, sections, verdict_by};
-ghost use Rattle.base_format.specs.Verdict.{verdict, any_data_verdict};
-ghost use Rattle.dual_format.specs.Verdict.{verdict as dual_verdict};
-ghost use Rattle.walks.specs.Formats.{own_of};
 ghost use Rattle.walks.specs.Answer.{answer_for};
 ghost use Rattle.walks.specs.Places.{first_in, context_in};
-ghost use Rattle.walks.specs.Walk.{past, cut_ended, chosen_after, Ready, Sound, step_of};
+ghost use Rattle.walks.specs.Walk.{past, cut_ended, chosen_after, Sound, step_of};
 
-use sections::{Context, Cut, Refusal, Why};
+use sections::{Context, Cut, FileFormat, Refusal, Why};
 
 // An accepted file: how many cuts it has, and the one that was asked for.
 #[derive(Clone, Copy)]
 pub struct Found {
     pub cuts: usize,
     pub cut: Cut,
-}
-
-// What a file is read as.
-#[derive(Clone, Copy)]
-enum ReadAs {
-    RunLength,
-    DualPolarisation,
-    AnyData, // run-length packed, its data not looked at
 }
 
 // Where the walk stands, with the number of the section before, the cuts ended and the places of the sections that later checks go by.
@@ -43,41 +32,16 @@ struct State {
     section5: usize,
 }
 
-// The checks of a section 7.
-fn judge7(format: ReadAs, s: &[u8], x: Context, at: usize) -> Result<(), Refusal>
-    requires at_in_bounds { at + length_at s.now at ≤ length s.now }
-    requires ready { Ready format s.now x }
-    ensures { result ≡ first_fault (own_of format s.now x at 7) }
-{
-    match format {
-        ReadAs::RunLength => base_format::judge7(s, x, at),
-        ReadAs::DualPolarisation => dual_format::judge7(s, x, at),
-        ReadAs::AnyData => base_format::judge_any7(s, at),
-    }
-}
-
-// The checks of the format's own sections other than a 7.
-fn judge_own(format: ReadAs, s: &[u8], x: Context, at: usize, n: u8) -> Result<(), Refusal>
-    requires at_in_bounds { at + length_at s.now at ≤ length s.now }
-    requires fact { n ≡ 7 → ⊥ }
-    ensures { result ≡ first_fault (own_of format s.now x at n) }
-{
-    match format {
-        ReadAs::RunLength | ReadAs::AnyData => base_format::judge(s, x, at, n),
-        ReadAs::DualPolarisation => dual_format::judge(s, x, at, n),
-    }
-}
-
 // The checks of the section's own kind, other than a 7: 1 and 6 are every format's.
-fn judge(format: ReadAs, s: &[u8], x: Context, at: usize, n: u8) -> Result<(), Refusal>
+fn judge<F: FileFormat>(s: &[u8], x: Context, at: usize, n: u8) -> Result<(), Refusal>
     requires at_in_bounds { at + length_at s.now at ≤ length s.now }
     requires fact { n ≡ 7 → ⊥ }
-    ensures { result ≡ first_fault (section_checks (own_of format) s.now x at n) }
+    ensures { result ≡ first_fault (section_checks F.own s.now x at n) }
 {
     match n {
         1 => sections::judge1(s, at),
         6 => sections::judge6(s, at),
-        _ => judge_own(format, s, x, at, n),
+        _ => F::judge(s, x, at, n),
     }
 }
 
@@ -104,9 +68,9 @@ fn context_in(st: State) -> Context
 
 // All the checks at the cursor, in order: 3, 9, then the section's own. No cut begins with a section 7, so 9 is not asked there and it goes straight
 // to its checks: the compiler then makes a better loop of the scan, where nearly all the time goes.
-fn judge_here(format: ReadAs, s: &[u8], end: usize, x: Context, at: usize) -> Result<(), Refusal>
-    requires { (end ≤ length s.now) × (x.previous ≡ 6 → Ready format s.now x) }
-    ensures { result ≡ first_fault (checks_at (own_of format) s.now end x at) }
+fn judge_here<F: FileFormat>(s: &[u8], end: usize, x: Context, at: usize) -> Result<(), Refusal>
+    requires { (end ≤ length s.now) × (x.previous ≡ 6 → F.Ready s.now x) }
+    ensures { result ≡ first_fault (checks_at F.own s.now end x at) }
 {
     if at == end {
         return sections::check(sections::is_closed(s, x, at), Why::Frame, at);
@@ -114,10 +78,10 @@ fn judge_here(format: ReadAs, s: &[u8], end: usize, x: Context, at: usize) -> Re
     sections::check(sections::is_framed(s, end, x, at), Why::Frame, at)?;
     let n = rules::number_at(s, at);
     if n == 7 {
-        return judge7(format, s, x, at);
+        return F::judge7(s, x, at);
     }
     sections::check(sections::has_room(s, x, at), Why::CutCount, at)?;
-    judge(format, s, x, at, n)
+    judge::<F>(s, x, at, n)
 }
 
 fn passed(st: State, n: u8, len: usize) -> State
@@ -152,12 +116,12 @@ fn passed(st: State, n: u8, len: usize) -> State
 }
 
 // One step of the walk: the checks at the cursor, and past the section where they hold; None at the end.
-fn one_step(format: ReadAs, s: &[u8], end: usize, st: State) -> Result<Option<State>, Refusal>
-    requires { Sound format s.now end st }
-    ensures { result ≡ step_of (own_of format) s.now end st }
+fn one_step<F: FileFormat>(s: &[u8], end: usize, st: State) -> Result<Option<State>, Refusal>
+    requires { Sound F.Ready s.now end st }
+    ensures { result ≡ step_of F.own s.now end st }
 {
     let at = st.at;
-    judge_here(format, s, end, context_in(st), at)?;
+    judge_here::<F>(s, end, context_in(st), at)?;
     if at == end {
         return Ok(None);
     }
@@ -191,9 +155,9 @@ fn chosen_after(want: usize, st: State, n: u8, chosen: Cut) -> Cut
 }
 
 // Section after section up to `end`, from section 1 on.
-fn walk_to(format: ReadAs, s: &[u8], end: usize, want: usize) -> Result<Found, Refusal>
+fn walk_to<F: FileFormat>(s: &[u8], end: usize, want: usize) -> Result<Found, Refusal>
     requires { (16 ≤ end) × (end + 4 ≤ length s.now) }
-    ensures { result ≡ answer_for want (sections (own_of format) (length s.now) s.now end [] 16) }
+    ensures { result ≡ answer_for want (sections F.own (length s.now) s.now end [] 16) }
 {
     let mut st = State {
         at: 16,
@@ -210,7 +174,7 @@ fn walk_to(format: ReadAs, s: &[u8], end: usize, want: usize) -> Result<Found, R
         section5: 0,
         section7: 0,
     };
-    while let Some(next) = one_step(format, s, end, st)? {
+    while let Some(next) = one_step::<F>(s, end, st)? {
         chosen = chosen_after(want, st, next.previous, chosen);
         st = next;
     }
@@ -220,32 +184,12 @@ fn walk_to(format: ReadAs, s: &[u8], end: usize, want: usize) -> Result<Found, R
     })
 }
 
-fn walk_as(format: ReadAs, s: &[u8], want: usize) -> Result<Found, Refusal>
-    ensures { result ≡ answer_for want (verdict_by (own_of format) s.now) }
+// The verdict on any octets as a file of a format, with the number of cuts and the places of cut `want`.
+pub fn walk<F: FileFormat>(s: &[u8], want: usize) -> Result<Found, Refusal>
+    ensures { result ≡ answer_for want (verdict_by F.own s.now) }
 {
     let n = s.len();
     sections::check((20 <= n) & (n <= 8388608), Why::FileSize, 0)?;
     sections::check(rules::fields0(s), Why::Section0, 0)?;
-    walk_to(format, s, n - 4, want)
-}
-
-// The verdict on any octets as a run-length packed file, with the number of cuts and the places of cut `want`.
-pub fn walk(s: &[u8], want: usize) -> Result<Found, Refusal>
-    ensures { result ≡ answer_for want (verdict s.now) }
-{
-    walk_as(ReadAs::RunLength, s, want)
-}
-
-// The same as a dual-polarisation file.
-pub fn walk_dual(s: &[u8], want: usize) -> Result<Found, Refusal>
-    ensures { result ≡ answer_for want (dual_verdict s.now) }
-{
-    walk_as(ReadAs::DualPolarisation, s, want)
-}
-
-// The same as a run-length packed file whose data may be anything.
-pub fn walk_any(s: &[u8], want: usize) -> Result<Found, Refusal>
-    ensures { result ≡ answer_for want (any_data_verdict s.now) }
-{
-    walk_as(ReadAs::AnyData, s, want)
+    walk_to::<F>(s, n - 4, want)
 }

@@ -11,19 +11,19 @@ use Rattle.records.proofs.ray_levels_from.Goals as goal
 
 pub ray_levels_from_on-requires : goal.ray_levels_from_on-requires
 ray_levels_from_on-requires c =
-    let told = sym c.find_any.ensures ∙ c.in_ok-find_any.was in
+    let told = sym c.find.ensures ∙ c.in_ok-find.was in
     any_cut _ _ _ told
 
 pub returns : goal.returns
 unfolding from_answer levels_from
 returns c =
-    let told = sym c.find_any.ensures ∙ c.in_ok-find_any.was in
+    let told = sym c.find.ensures ∙ c.in_ok-find.was in
     record {
       answer = c.ray_levels_from_on.ensures.value ∙ sym (on_found _ _ _ _ _ told);
       after = c.ray_levels_from_on.ensures.out_after ∙ ap (λ (x : Cut). if_written c.ray_levels_from_on.result (front (ray_from c.args.file.now x c.args.rec) c.args.out.now) c.args.out.now) (sym (cut_found _ _ _ told));
     }
 
-pub returns-in_err-find_any : goal.returns-in_err-find_any
+pub returns-in_err-find : goal.returns-in_err-find
 unfolding from_answer levels_from
-returns-in_err-find_any c =
-    rw (passed_on _ _ c.from_residual.ensures.1) (record { answer = sym (on_refused _ _ _ _ _ (sym c.find_any.ensures ∙ c.in_err-find_any.was)); after = refl })
+returns-in_err-find c =
+    rw (passed_on _ _ c.from_residual.ensures.1) (record { answer = sym (on_refused _ _ _ _ _ (sym c.find.ensures ∙ c.in_err-find.was)); after = refl })

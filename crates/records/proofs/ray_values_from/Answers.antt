@@ -12,13 +12,13 @@ use Rattle.records.proofs.ray_values_from.Goals as goal
 
 pub ray_values_from_on-requires : goal.ray_values_from_on-requires
 ray_values_from_on-requires c =
-    let told = sym c.find_any.ensures ∙ c.in_ok-find_any.was in
+    let told = sym c.find.ensures ∙ c.in_ok-find.was in
     any_cut _ _ _ told
 
 pub returns : goal.returns
 unfolding from_answer marks_from values_from
 returns c =
-    let told = sym c.find_any.ensures ∙ c.in_ok-find_any.was in
+    let told = sym c.find.ensures ∙ c.in_ok-find.was in
     let same = sym (cut_found _ _ _ told) in
     record {
       answer = c.ray_values_from_on.ensures.value ∙ sym (on_found _ _ _ _ _ told);
@@ -26,7 +26,7 @@ returns c =
       valued = c.ray_values_from_on.ensures.values_after ∙ ap (λ (x : Cut). if_written c.ray_values_from_on.result (values_of (product_in c.args.file.now x) (ray_from c.args.file.now x c.args.rec) c.args.values.now) c.args.values.now) same;
     }
 
-pub returns-in_err-find_any : goal.returns-in_err-find_any
+pub returns-in_err-find : goal.returns-in_err-find
 unfolding from_answer marks_from values_from
-returns-in_err-find_any c =
-    rw (passed_on _ _ c.from_residual.ensures.1) (record { answer = sym (on_refused _ _ _ _ _ (sym c.find_any.ensures ∙ c.in_err-find_any.was)); marked = refl; valued = refl })
+returns-in_err-find c =
+    rw (passed_on _ _ c.from_residual.ensures.1) (record { answer = sym (on_refused _ _ _ _ _ (sym c.find.ensures ∙ c.in_err-find.was)); marked = refl; valued = refl })
