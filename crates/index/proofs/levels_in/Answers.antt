@@ -1,4 +1,4 @@
--- `levels_in` meets its contract: bins of one run are so many of its level; else by way of the row.
+-- `levels_in` meets its contract where all bins are one run: they are so many of its level.
 use Prim.Native.Nat.{ℕ, ◌-◌}
 use mathlib.Core.Path.{◌≡◌, sym, ap, ◌∙◌}
 use mathlib.Core.List.{List, []}

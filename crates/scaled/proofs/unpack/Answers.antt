@@ -1,4 +1,4 @@
--- The machine's sum and division are those of the definition: R is a number, and nothing that is taken over is rounded.
+-- R is a number, and the powers that scale it are those of the definition.
 use Rattle.scaled.specs.Scaled.{scaled_value}
 use Rattle.scaled.proofs.Single.{bits_number}
 use Rattle.scaled.proofs.unpack.Goals as goal

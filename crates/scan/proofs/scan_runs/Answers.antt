@@ -1,4 +1,4 @@
--- `scan_runs` meets its contract: what the loop over runs finds behind the blocks, moved by their octets, is what a scan of all finds.
+-- A place that the loop over runs tells is inside the octets behind the blocks: with the blocks' octets it is inside all.
 use Prim.Native.Nat.{ℕ}
 use mathlib.Core.Path.{◌≡◌, sym, ap, ◌∙◌}
 use mathlib.Core.List.{List}

@@ -1,4 +1,4 @@
--- `put_reading` meets its contract: a row of marks, and a row of numbers as far as there are any.
+-- The row of numbers, as far as there are any, lies where the row of marks does.
 use native.Mathlib.Omega.{arith}
 use Rattle.values.proofs.Ray.{numbered_within}
 use Rattle.values.proofs.put_reading.Goals as goal
