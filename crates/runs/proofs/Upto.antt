@@ -66,6 +66,14 @@ pub record Upto (v : ℕ) (s : List ℕ) (want at bins : ℕ) : Type 0 where
   pub within : bins ≤ length (levels v s)
   pub stands : bins < want → Stands v s at bins
 
+-- a run that the step tells: reading stands where it begins and past it, and it has bins
+pub record Past (v : ℕ) (s : List ℕ) (want at bins : ℕ) (r : Run) : Type 0 where
+  pub cut : CutOff v s at (want - bins) r.level r.len r.next
+  pub stands : Stands v s at bins
+  pub more : bins < length (levels v s)
+  pub some : 0 < r.len
+  pub on : Upto v s want r.next (bins + r.len)
+
 module _ (v : ℕ) (s : List ℕ) (want at bins : ℕ) (k : Upto v s want at bins) where
   module _ (x len next : ℕ) (c : CutOff v s at (want - bins) x len next) where
     wanted : bins < want
@@ -92,6 +100,12 @@ module _ (v : ℕ) (s : List ℕ) (want at bins : ℕ) (k : Upto v s want at bin
             stands = λ short. (here_next v s at bins upto_stands upto_more len next (omega arith) (c.past (omega arith))).1;
           },
         )
+
+  pub upto_told : (r : Run) → Some r ≡ cut_step v (want - bins) s at → Past v s want at bins r
+  upto_told r told =
+      let c = cut_told v (want - bins) s at r told in
+      let next = upto_next _ _ _ c in
+      record { cut = c; stands = upto_stands _ _ _ c; more = upto_more _ _ _ c; some = next.0; on = next.1 }
 
   -- at the end all bins are read, or the octets give fewer
   pub upto_ended : None ≡ cut_step v (want - bins) s at → eqb bins want ≡ leb want (length (levels v s))

@@ -29,9 +29,6 @@ returns-then-not-has_room c = let room = length c.args.out.now in
     let short : room < length (written (greatest c.args.levels.now) c.args.levels.now) = leb-false _ _ no in
     record { answered = simp (le-ltb _ _ c.if-levels-gt2097152.false, le-ltb _ _ low, lt-ltb _ _ short); held = refl }
 
-pub put_all-len-requires : goal.put_all-len-requires
-put_all-len-requires c = (omega arith, omega arith, leb-true _ _ (sym c.has_room.ensures ∙ c.if-not-has_room.false))
-
 pub returns : goal.returns
 unfolding write_answer
 returns c = let room = length c.args.out.now in

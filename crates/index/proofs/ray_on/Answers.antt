@@ -5,25 +5,10 @@ use Rattle.runs.proofs.Here.{stands_holding, here_inside}
 use Rattle.index.proofs.Records.{record_held}
 use Rattle.index.proofs.ray_on.Goals as goal
 
-pub seek_from-hand-requires : goal.seek_from-hand-requires
-seek_from-hand-requires c = record {
-  v_bound = (c.requires.0.low, c.requires.0.few, c.requires.1);
-  in_hand = (c.requires.0.run, c.requires.0.before);
-}
-
 pub overflow_cast-result : goal.overflow_cast-result
 overflow_cast-result c =
     let inside = here_inside c.args.p.v c.args.part.now _ _ (stands_holding c.args.p.v c.args.part.now c.args.p.bin c.seek_from-hand.result c.seek_from-hand.ensures).0 (omega (arith, c.seek_from-hand.ensures.before, c.requires.1)) in
     record { fits = omega (arith, inside, c.requires.0.short) }
-
-pub overflow_sub-result : goal.overflow_sub-result
-overflow_sub-result c = c.seek_from-hand.ensures.before
-
-pub overflow_cast-result-2 : goal.overflow_cast-result-2
-overflow_cast-result-2 c = record { fits = omega (arith, c.requires.1, c.requires.0.few) }
-
-pub overflow_add-result : goal.overflow_add-result
-overflow_add-result c = record { fits = omega (arith, c.requires.1, c.requires.0.few, c.requires.0.ray) }
 
 pub returns : goal.returns
 returns c =

@@ -1,5 +1,5 @@
 -- One octet more at each turn.
-use Rattle.std.proofs.Common.{◌≡◌, ◌<◌, ◌^◌, get_or, refl, ap, ◌∙◌, arith}
+use Rattle.std.proofs.Common.{◌≡◌, get_or, refl, arith}
 use Rattle.std.proofs.lemmas.Grind.{common_steps}
 use Rattle.octets.specs.Octets.{be}
 use Rattle.octets.proofs.Laws.{be_more, be_fits, more_fits}
@@ -23,8 +23,3 @@ pub of-requires : goal.of-requires
 of-requires g c =
     let same : c.loop-i.i ≡ g.T.Number.WIDTH = omega (arith, c.loop-i-test.false, c.loop-i.auto.i-end, c.WIDTH-i-end.ensures) in
     rw (← same) (omega (arith, c.loop-i.invariant, be_fits c.args.octets.now 0 c.loop-i.i c.type_inv.octets))
-
-pub returns : goal.returns
-returns g c =
-    let same : c.loop-i.i ≡ g.T.Number.WIDTH = omega (arith, c.loop-i-test.false, c.loop-i.auto.i-end, c.WIDTH-i-end.ensures) in
-    c.of.ensures ∙ (c.loop-i.invariant ∙ ap (be c.args.octets.now 0) same)

@@ -1,36 +1,16 @@
 -- `known_run` meets its contract: the digits still to come, weighed truly, make up what is left of the run.
-use Prim.Native.Nat.{◌-◌, ◌*◌, ◌≤◌, ◌<◌}
+use Prim.Native.Nat.{◌-◌, ◌≤◌, ◌<◌}
 use native.Mathlib.Omega.{arith}
 use native.Mathlib.Nat.{mul-le-mul}
-use lib.ListN.{get_or}
 use borrow.Author.Tests.{le-leb, lt-leb}
-use Rattle.runs.proofs.Bins.{product}
-use Rattle.runs.proofs.Digits.{still_start, still_short, still_end, still_stop, still_more, known_none, known_is}
+use Rattle.runs.proofs.Digits.{still_start, still_end, still_stop, still_more, known_none, known_is}
 use Rattle.runs.proofs.known_run.Goals as goal
 
 pub returns-then-left-eq0 : goal.returns-then-left-eq0
 returns-then-left-eq0 c = known_none c.args.v c.args.left c.args.octets.now c.args.at c.if-left-eq0.true
 
-pub bounds-octets-at : goal.bounds-octets-at
-bounds-octets-at c = (c.requires.1 (omega arith)).0
-
-pub overflow_add-i : goal.overflow_add-i
-overflow_add-i c = omega (arith, (c.requires.1 (omega arith)).0)
-
 pub loop-i-init : goal.loop-i-init
 loop-i-init c = (omega (arith, (c.requires.1 (omega arith)).0), omega arith, still_start c.args.v c.args.octets.now c.args.at)
-
-pub overflow_cast-len : goal.overflow_cast-len
-overflow_cast-len c = omega (arith, c.type_inv.octets c.loop-i.i)
-
-pub overflow_mul-len : goal.overflow_mul-len
-overflow_mul-len c = record { fits = omega (arith, product (2097152 * 255) (get_or c.args.octets.now c.loop-i.i 0 - c.args.v - 1) c.loop-i.weight (omega (arith, c.type_inv.octets c.loop-i.i)) (omega arith)) }
-
-pub overflow_add-len : goal.overflow_add-len
-overflow_add-len c = record { fits = omega (arith, still_short c.loop-i.invariant.2, (c.requires.1 (omega arith)).1, product (2097152 * 255) (get_or c.args.octets.now c.loop-i.i 0 - c.args.v - 1) c.loop-i.weight (omega (arith, c.type_inv.octets c.loop-i.i)) (omega arith)) }
-
-pub overflow_mul-weight : goal.overflow_mul-weight
-overflow_mul-weight c = record { fits = omega (arith, mul-le-mul {n₁ = c.loop-i.weight} {m₁ = 255 - c.args.v} {n₂ = 2097152} {m₂ = 255} (omega arith) (omega arith)) }
 
 pub loop-i-preserved-then-weight-le2097152 : goal.loop-i-preserved-then-weight-le2097152
 loop-i-preserved-then-weight-le2097152 c = let small : c.loop-i.weight ≤ 2097152 = omega arith in

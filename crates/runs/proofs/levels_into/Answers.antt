@@ -1,20 +1,13 @@
 -- `levels_into` meets its contract: the bins lie in the octets from the run on that holds bin a (Passed.antt).
-use Prim.Native.Nat.{◌-◌, ◌<◌}
+use Prim.Native.Nat.{◌<◌}
 use mathlib.Core.Path.{ap, ◌∙◌}
 use mathlib.Core.List.{List}
 use Prim.Native.Nat.{ℕ}
 use native.Mathlib.Omega.{arith}
-use lib.ListN.{drop}
 use borrow.Author.Tests.{le-leb}
 use Rattle.lent.specs.Lent.{front}
-use Rattle.lent.proofs.Lent.{front_none}
-use Rattle.runs.specs.Run.{levels}
-use Rattle.runs.proofs.Passed.{passed_inside, passed_opens, passed_given, passed_bins}
+use Rattle.runs.proofs.Passed.{passed_inside, passed_given, passed_bins}
 use Rattle.runs.proofs.levels_into.Goals as goal
-
-pub returns-then-b-a : goal.returns-then-b-a
-returns-then-b-a c =
-    front_none (drop c.args.a (levels c.args.v c.args.octets.now)) c.args.out.now (c.args.b - c.args.a) (omega (arith, c.if-b-a.true))
 
 pub slice_bounds-levels_upto-count : goal.slice_bounds-levels_upto-count
 slice_bounds-levels_upto-count c =
@@ -25,10 +18,6 @@ pub slice_bounds-levels_upto-start : goal.slice_bounds-levels_upto-start
 slice_bounds-levels_upto-start c =
     let some : c.args.a < c.args.b = c.if-b-a.false in
     omega (arith, passed_inside c.args.v c.args.a c.args.b c.args.octets.now some c.requires.a_le_b.1 c.seek-hand.result c.seek-hand.ensures)
-
-pub levels_upto-requires : goal.levels_upto-requires
-levels_upto-requires c =
-    let some : c.args.a < c.args.b = c.if-b-a.false in record { v_bound = (c.requires.v_bound.0, omega (arith, c.requires.a_le_b.1, c.requires.v_bound.2), passed_opens c.args.v c.args.a c.args.b c.args.octets.now some c.requires.a_le_b.1 c.seek-hand.result c.seek-hand.ensures); a_le_b = (omega (arith, c.requires.a_le_b.0), omega (arith, c.requires.a_le_b.2, c.seek-hand.ensures.before, some)) }
 
 pub returns : goal.returns
 returns c =

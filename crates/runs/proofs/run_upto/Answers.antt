@@ -1,10 +1,8 @@
 -- `run_upto` meets its contract: what is left of the octets, with the length and the weight so far, answers what stands at the place.
-use Prim.Native.Nat.{◌-◌, ◌*◌, ◌≤◌, ◌<◌}
+use Prim.Native.Nat.{◌-◌, ◌≤◌, ◌<◌}
 use native.Mathlib.Omega.{arith}
-use lib.ListN.{get_or}
 use borrow.Author.Tests.{le-leb, lt-leb}
 use native.Mathlib.Nat.{mul-le-mul}
-use Rattle.runs.proofs.Bins.{product}
 use Rattle.runs.proofs.Steps.{cut_none, cut_end, cut_start, go_digit, go_over, go_stop, go_end}
 use Rattle.runs.proofs.run_upto.Goals as goal
 
@@ -17,20 +15,8 @@ returns-then-octets-at c = cut_end c.args.v c.args.left c.args.octets.now c.args
 pub loop-i-init : goal.loop-i-init
 loop-i-init c = (omega arith, omega arith, omega arith, cut_start c.args.v c.args.left c.args.octets.now c.args.at (omega arith) (λ none. omega arith) (omega arith))
 
-pub overflow_cast-len : goal.overflow_cast-len
-overflow_cast-len c = omega (arith, c.type_inv.octets c.loop-i.i)
-
-pub overflow_mul-len : goal.overflow_mul-len
-overflow_mul-len c = record { fits = omega (arith, product (1099511627775 * 255) (get_or c.args.octets.now c.loop-i.i 0 - c.args.v - 1) c.loop-i.weight (omega (arith, c.type_inv.octets c.loop-i.i)) (omega arith)) }
-
-pub overflow_add-len : goal.overflow_add-len
-overflow_add-len c = record { fits = omega (arith, product (1099511627775 * 255) (get_or c.args.octets.now c.loop-i.i 0 - c.args.v - 1) c.loop-i.weight (omega (arith, c.type_inv.octets c.loop-i.i)) (omega arith)) }
-
 pub returns-then-left-len : goal.returns-then-left-len
 returns-then-left-len c = go_over c.args.v c.args.left _ _ c.loop-i.len c.loop-i.weight c.loop-i.i c.args.octets.now _ (omega arith) (omega arith) (omega arith) c.loop-i.invariant.3
-
-pub overflow_mul-weight : goal.overflow_mul-weight
-overflow_mul-weight c = record { fits = omega (arith, mul-le-mul {n₁ = c.loop-i.weight} {m₁ = 255 - c.args.v} {n₂ = 1099511627775} {m₂ = 255} (omega arith) (omega arith)) }
 
 pub loop-i-preserved-then-weight-left : goal.loop-i-preserved-then-weight-left
 loop-i-preserved-then-weight-left c = let small : c.loop-i.weight ≤ c.args.left = omega arith in

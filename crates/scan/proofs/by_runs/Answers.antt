@@ -1,5 +1,5 @@
 -- `by_runs` meets its contract: what is left of the octets, with the bins still to come and the weight so far, answers what all of them do; where it stops is the place that it tells.
-use Prim.Native.Nat.{ℕ, ◌-◌, ◌*◌, ◌≤◌, ◌<◌}
+use Prim.Native.Nat.{ℕ, ◌-◌, ◌≤◌, ◌<◌}
 use mathlib.Core.Path.{◌≡◌, refl, sym, ap, ◌∙◌}
 use mathlib.Core.Logic.{◌⊎◌, inl, inr, ⊎_elim}
 use native.Mathlib.Omega.{arith}
@@ -7,7 +7,6 @@ use native.Mathlib.Nat.{mul-le-mul}
 use lib.ListN.{length}
 use borrow.Author.Tests.{le-leb, lt-leb}
 use Rattle.scan.specs.Inner.{scanned}
-use Rattle.runs.proofs.Bins.{product}
 use Rattle.scan.proofs.Scanning.{verdict, none_given, all_read, too_few, at_run_right, level_step, level_last, digits_level, digit_step, digit_last, above_fails, full_fails, past_fails}
 use Rattle.scan.proofs.by_runs.Goals as goal
 use Rattle.scan.proofs.by_runs.Goals.{else-runs-test, then-runs-test+then-left-lt1, then-runs-test+else-left-lt1+then-octets-i, then-runs-test+else-left-lt1+else-octets-i+then-digits-test+then-left-more, then-runs-test+else-left-lt1+else-octets-i+then-digits-test+else-left-more+then-octets-i-2}
@@ -27,19 +26,6 @@ digits-init c = (omega arith, omega arith, omega arith, omega arith, refl, level
 
 pub runs-preserved : goal.runs-preserved
 runs-preserved c = (omega arith, omega arith, c.digits.invariant.4, digits_level c.args.v c.digits.left c.digits.weight c.args.octets.now c.digits.i c.digits.o _ c.digits.invariant.0 c.digits.invariant.4 (omega arith) c.digits.invariant.5)
-
-pub overflow_cast-more : goal.overflow_cast-more
-overflow_cast-more c =
-    let octet : c.digits.o ≤ 255 = omega (arith, c.digits.invariant.4, c.type_inv.octets c.digits.i) in
-    omega (arith, octet)
-
-pub overflow_mul-more : goal.overflow_mul-more
-overflow_mul-more c =
-    let octet : c.digits.o ≤ 255 = omega (arith, c.digits.invariant.4, c.type_inv.octets c.digits.i) in
-    record { fits = omega (arith, product (2097152 * 255) (c.digits.o - c.args.v - 1) c.digits.weight (omega (arith, octet)) (omega arith)) }
-
-pub overflow_mul-weight : goal.overflow_mul-weight
-overflow_mul-weight c = record { fits = omega (arith, mul-le-mul {n₁ = c.digits.weight} {m₁ = 255 - c.args.v} {n₂ = 2097152} {m₂ = 255} (omega arith) (omega arith)) }
 
 pub digits-preserved-then-weight-le2097152 : goal.digits-preserved-then-weight-le2097152
 digits-preserved-then-weight-le2097152 c = let small : c.digits.weight ≤ 2097152 = omega arith in

@@ -8,10 +8,10 @@ use lib.ListN.{length, get_or}
 use Rattle.runs.specs.Run.{run_len}
 use Rattle.runs.specs.Inner.{run_next, known_step}
 use Rattle.runs.proofs.Here.{gives_true, known_ended, known_told}
-use Rattle.stretches.specs.Stretch.{KindOfLevel, per_entry}
+use Rattle.stretches.specs.Stretch.{per_entry}
 use Rattle.stretches.specs.Inner.{kind_by_table}
 use Rattle.stretches.specs.Call.{stretches_from}
-use Rattle.stretches.proofs.Going.{next_ray_lem, promised, told, same_size, Going, going_start, ray_le, run_inside, run_fits, changing, going_changed, going_on, ending, going_ended, due, due_start, ended, passed, wrote, stuck}
+use Rattle.stretches.proofs.Going.{next_ray_lem, promised, told, Going, going_start, run_inside, run_fits, changing, going_changed, going_on, ending, going_ended, due, due_start, ended, passed, wrote, stuck}
 use Rattle.stretches.proofs.list_by.Goals as goal
 use Rattle.stretches.proofs.list_by.Goals.{then-other+then-must_list+else-cap-count, then-other+else-must_list, else-other, then-must_list-2+else-cap-count-2, else-must_list-2}
 use Rattle.runs.specs.declared.Run.{Run}
@@ -21,10 +21,6 @@ use Rattle.std.specs.Prelude.{Some}
 few : (nb nr : ℕ) → nr ≤ 1024 → nb ≤ 2048 → nr * nb ≤ 2097152
 few nb nr h k = mul-le-mul {n₁ = nr} {m₁ = nb} {n₂ = 1024} {m₂ = 2048} h k
 
--- rays and bins are few
-small : (sc : KindOfLevel) (v nb nr : ℕ) (xs : List ℕ) {at ray bin first held : ℕ} → Going sc v nb nr xs at ray bin first held → nr ≤ 1024 → nb ≤ 2048 → (nb ≤ 2048) × (ray ≤ 1024) × (first ≤ 2048)
-small sc v nb nr xs g h k = (k, omega (arith, ray_le _ _ _ _ _ g, h), omega (arith, g.first_lt, k))
-
 -- what the step tells: there is a ray to come, and the run in hand has this level and length, and ends there
 run : (v nr : ℕ) (xs : List ℕ) (at ray : ℕ) {r : Run} → Some r ≡ known_step v (nr - ray) xs at → (ray < nr) × (r.level ≡ get_or xs at 0) × (r.len ≡ run_len v xs at) × (r.next ≡ run_next v xs at)
 run v nr xs at ray e = let t = known_told v (nr - ray) xs at _ e in (omega (arith, t.0), t.1, t.2, t.3)
@@ -32,28 +28,16 @@ run v nr xs at ray e = let t = known_told v (nr - ray) xs at _ e in (omega (arit
 pub loop-run-init : goal.loop-run-init
 loop-run-init c = (going_start _ _ _ _ _ c.requires.nb_pos (gives_true c.args.v (c.args.nr * c.args.nb) c.args.octets.now c.requires.given).0, c.requires.nb_pos, due_start _ _ _ _ _ _ _)
 
-pub overflow_sub-nr : goal.overflow_sub-nr
-overflow_sub-nr c = ray_le _ _ _ _ _ c.loop-run.invariant.0
-
 pub known_run-requires : goal.known_run-requires
 known_run-requires c =
     let whole = (gives_true c.args.v (c.args.nr * c.args.nb) c.args.octets.now c.requires.given).1 in
     (c.requires.v_le, λ some. let more : c.loop-run.ray < c.args.nr = omega (arith, some) in (run_inside _ _ _ _ _ whole c.loop-run.invariant.0 c.loop-run.invariant.1 more, omega (arith, run_fits _ _ _ _ _ whole c.loop-run.invariant.0 c.loop-run.invariant.1 more, few c.args.nb c.args.nr c.requires.nr_le c.requires.nb_le)))
-
-pub shape_of-out : goal.shape_of-out
-shape_of-out c = same_size _ _ _ _ _ _ _ c.loop-run.invariant.2
 
 pub returns : goal.returns
 returns c =
     let none = known_ended c.args.v (c.args.nr - c.loop-run.ray) c.args.octets.now c.loop-run.at (sym c.in_default.is ∙ c.known_run.ensures) in
     let end = told _ (c.loop-run.invariant.2 ∙ ended _ _ _ _ _ _ _ c.loop-run.invariant.0 (omega (arith, none)) _ _) in
     record { value = end.0; out_after = end.1 }
-
-pub must_list-requires : goal.must_list-requires
-must_list-requires c = small _ _ _ _ _ c.loop-run.invariant.0 c.requires.nr_le c.requires.nb_le
-
-pub shape_of-out-then-cap-count : goal.shape_of-out-then-cap-count
-shape_of-out-then-cap-count c = same_size _ _ _ _ _ _ _ c.loop-run.invariant.2
 
 pub returns-then-cap-count : goal.returns-then-cap-count
 returns-then-cap-count c =
@@ -63,17 +47,6 @@ returns-then-cap-count c =
     let kind_is : get_or c.args.kinds.now c.in-Some.run'.level 0 ≡ get_or c.args.kinds.now (get_or c.args.octets.now c.loop-run.at 0) 0 = ap (λ (l : ℕ). get_or c.args.kinds.now l 0) r.1 in
     let end = told _ (i.2 ∙ stuck _ _ _ _ _ _ _ (changing _ _ _ _ _ whole i.0 i.1 r.0 (λ e. c.if-other.true (kind_is ∙ e))) c.must_list.ensures c.if-must_list.true _ _ c.if-cap-count.true) in
     record { value = end.0; out_after = end.1 }
-
-pub overflow_sub-bin : goal.overflow_sub-bin
-overflow_sub-bin c = c.loop-run.invariant.0.first_le
-
-pub put-requires : goal.put-requires
-put-requires c =
-    let b = small _ _ _ _ _ c.loop-run.invariant.0 c.requires.nr_le c.requires.nb_le in
-    (b.1, b.2, omega (arith, b.0, c.loop-run.invariant.1), omega (arith, c.if-cap-count.false, same_size _ _ _ _ _ _ _ c.loop-run.invariant.2))
-
-pub overflow_add-count : goal.overflow_add-count
-overflow_add-count c = omega (arith, c.if-cap-count.false)
 
 pub overflow_add-bin : goal.overflow_add-bin
 overflow_add-bin c =
@@ -108,33 +81,10 @@ loop-run-smaller c =
     let r = run c.args.v c.args.nr c.args.octets.now c.loop-run.at c.loop-run.ray (sym c.in-Some.is ∙ c.known_run.ensures) in
     omega (arith, r.3, run_inside _ _ _ _ _ whole c.loop-run.invariant.0 c.loop-run.invariant.1 r.0)
 
-pub loop-run-preserved : goal.loop-run-preserved
-loop-run-preserved c = (c.loop-bin.invariant.0, c.loop-bin-test.false, c.loop-bin.invariant.1)
-
-pub must_list-requires-in-loop-bin : goal.must_list-requires-in-loop-bin
-must_list-requires-in-loop-bin c = small _ _ _ _ _ c.loop-bin.invariant.0 c.requires.nr_le c.requires.nb_le
-
-pub shape_of-out-then-cap-count-2 : goal.shape_of-out-then-cap-count-2
-shape_of-out-then-cap-count-2 c = same_size _ _ _ _ _ _ _ c.loop-bin.invariant.1
-
 pub returns-then-cap-count-2 : goal.returns-then-cap-count-2
 returns-then-cap-count-2 c =
     let end = told _ (c.loop-bin.invariant.1 ∙ stuck _ _ _ _ _ _ _ (ending _ _ _ _ _ c.loop-bin.invariant.0 c.loop-bin-test.true) c.must_list-in-loop-bin.ensures c.if-must_list-2.true _ _ c.if-cap-count-2.true) in
     record { value = end.0; out_after = end.1 }
-
-pub overflow_sub-nb : goal.overflow_sub-nb
-overflow_sub-nb c = omega (arith, c.loop-bin.invariant.0.first_lt)
-
-pub put-requires-then-must_list-2 : goal.put-requires-then-must_list-2
-put-requires-then-must_list-2 c =
-    let b = small _ _ _ _ _ c.loop-bin.invariant.0 c.requires.nr_le c.requires.nb_le in
-    (b.1, b.2, omega (arith, b.0), omega (arith, c.if-cap-count-2.false, same_size _ _ _ _ _ _ _ c.loop-bin.invariant.1))
-
-pub overflow_add-ray : goal.overflow_add-ray
-overflow_add-ray c = let b = small _ _ _ _ _ c.loop-bin.invariant.0 c.requires.nr_le c.requires.nb_le in omega (arith, b.1)
-
-pub loop-bin-smaller : goal.loop-bin-smaller
-loop-bin-smaller c = omega (arith, c.loop-bin.invariant.0.first_lt, c.loop-bin-test.true)
 
 pub loop-bin-preserved : goal.loop-bin-preserved
 loop-bin-preserved c =

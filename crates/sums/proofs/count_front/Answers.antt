@@ -1,6 +1,6 @@
 -- `count_front` meets its contract: what is counted and what the row still holds, times the weight, is what the front gives.
 use Prim.Native.Nat.{ℕ, ◌-◌, ◌*◌, ◌≤◌}
-use mathlib.Core.Path.{sym, ◌∙◌, subst}
+use mathlib.Core.Path.{◌∙◌, subst}
 use native.Mathlib.Nat.{mul-le-mul}
 use native.Mathlib.Omega.{arith}
 use Rattle.sums.proofs.Counting.{Counted, counted_first, counted_less, counted_next, counted_all}
@@ -14,13 +14,6 @@ products sum weight v few low small = (
   mul-le-mul {n₁ = weight} {m₁ = 2} {n₂ = weight} {m₂ = 255 - v} (omega arith) (omega arith),
 )
 
-pub lay-all-requires : goal.lay-all-requires
-lay-all-requires c = (c.requires.1, c.requires.2)
-
-pub whole_runs-whole-requires : goal.whole_runs-whole-requires
-whole_runs-whole-requires c =
-    (c.requires.1, omega arith, omega arith, c.lay-all.ensures.value, c.lay-all.ensures.laid)
-
 pub loop-sum-init : goal.loop-sum-init
 loop-sum-init c = (
   omega arith,
@@ -32,27 +25,9 @@ loop-sum-init c = (
   counted_first c.args.v c.args.octets.now c.whole_runs-whole.result.octets _ c.whole_runs-whole.result.sum (omega arith) c.requires.1 c.whole_runs-whole.ensures.octets_bound.0 c.whole_runs-whole.ensures.octets_bound.1 c.whole_runs-whole.ensures.laid c.whole_runs-whole.ensures.octets_bound.2,
 )
 
-pub shape_of-row-then-weight-gt2097152 : goal.shape_of-row-then-weight-gt2097152
-shape_of-row-then-weight-gt2097152 c = c.loop-sum.invariant.0 ∙ sym c.requires.2
-
-pub shift-deeper-requires : goal.shift-deeper-requires
-shift-deeper-requires c = (c.requires.1, c.loop-sum.invariant.0)
-
 pub overflow_sub-bins : goal.overflow_sub-bins
 overflow_sub-bins c =
     counted_less c.args.v c.args.octets.now _ c.loop-sum.row c.shift-deeper.new.row c.loop-sum.sum c.shift-deeper.result c.loop-sum.weight c.loop-sum.bins c.loop-sum.invariant.1 c.shift-deeper.ensures.shifted c.shift-deeper.ensures.value c.loop-sum.invariant.6
-
-pub overflow_mul-bins : goal.overflow_mul-bins
-overflow_mul-bins c =
-    omega (arith, products (c.loop-sum.sum - c.shift-deeper.result) c.loop-sum.weight c.args.v (omega arith) (omega arith) (omega arith))
-
-pub overflow_add-bins : goal.overflow_add-bins
-overflow_add-bins c =
-    omega (arith, products (c.loop-sum.sum - c.shift-deeper.result) c.loop-sum.weight c.args.v (omega arith) (omega arith) (omega arith))
-
-pub overflow_mul-weight : goal.overflow_mul-weight
-overflow_mul-weight c =
-    omega (arith, products 0 c.loop-sum.weight c.args.v (omega arith) (omega arith) (omega arith))
 
 pub loop-sum-smaller : goal.loop-sum-smaller
 loop-sum-smaller c =
@@ -69,9 +44,6 @@ loop-sum-preserved c =
       omega (arith, p),
       counted_next c.args.v c.args.octets.now _ c.loop-sum.row c.shift-deeper.new.row c.loop-sum.sum c.shift-deeper.result c.loop-sum.weight c.loop-sum.bins c.loop-sum.invariant.1 c.shift-deeper.ensures.shifted c.shift-deeper.ensures.value c.loop-sum.invariant.6,
     )
-
-pub shape_of-row : goal.shape_of-row
-shape_of-row c = c.loop-sum.invariant.0 ∙ sym c.requires.2
 
 pub returns : goal.returns
 returns c =

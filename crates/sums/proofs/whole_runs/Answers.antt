@@ -1,6 +1,6 @@
 -- `whole_runs` meets its contract: going back from the block's end each digit leaves the row and the sum; the first octet is a level at the latest.
 use Prim.Native.Nat.{ℕ, ◌+◌, ◌-◌, ◌≤◌, ◌<◌}
-use mathlib.Core.Path.{◌≡◌, sym, ap, ◌∙◌}
+use mathlib.Core.Path.{◌≡◌, ap, ◌∙◌}
 use mathlib.Core.List.{List}
 use native.Mathlib.Omega.{arith}
 use lib.ListN.{get_or, set, length-set}
@@ -32,17 +32,8 @@ opens octets v e rest sum low =
     let one : f e ≡ 1 = simp (le-leb (get_or octets e 0) v low) in
     omega (arith, sum, total_more f e, one)
 
-pub loop-e-init : goal.loop-e-init
-loop-e-init c = (omega arith, c.requires.1, c.requires.3, c.requires.4)
-
 pub overflow_sub-rest : goal.overflow_sub-rest
 overflow_sub-rest c = omega (arith, here c.args.octets.now c.loop-e.row c.args.v c.loop-e.e c.loop-e.rest c.loop-e.invariant.2 c.loop-e-test.true (c.loop-e.invariant.3.0 c.loop-e.e (omega arith)))
-
-pub overflow_sub-e-in-loop-e : goal.overflow_sub-e-in-loop-e
-overflow_sub-e-in-loop-e c = later c.args.octets.now c.args.v c.loop-e.e c.requires.2 c.loop-e-test.true
-
-pub loop-e-smaller : goal.loop-e-smaller
-loop-e-smaller c = omega (arith, later c.args.octets.now c.args.v c.loop-e.e c.requires.2 c.loop-e-test.true)
 
 pub loop-e-preserved : goal.loop-e-preserved
 loop-e-preserved c = let back : c.loop-e.e - 1 + 1 ≡ c.loop-e.e = omega (arith, later c.args.octets.now c.args.v c.loop-e.e c.requires.2 c.loop-e-test.true) in (
@@ -60,9 +51,6 @@ loop-e-preserved c = let back : c.loop-e.e - 1 + 1 ≡ c.loop-e.e = omega (arith
 
 pub overflow_sub-result : goal.overflow_sub-result
 overflow_sub-result c = omega (arith, opens c.args.octets.now c.args.v c.loop-e.e c.loop-e.rest c.loop-e.invariant.2 c.loop-e-test.false)
-
-pub shape_of-row : goal.shape_of-row
-shape_of-row c = c.loop-e.invariant.1 ∙ sym c.requires.1
 
 pub returns : goal.returns
 returns c = record {

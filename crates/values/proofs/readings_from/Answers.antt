@@ -1,6 +1,6 @@
 -- `readings_from` meets its contract: the runs read so far, from a on, have their marks and numbers; as long as bins are wanted, reading stands at the place in
 -- hand.
-use Prim.Native.Nat.{ℕ, ◌+◌, ◌-◌, ◌≤◌, ◌<◌}
+use Prim.Native.Nat.{ℕ, ◌+◌, ◌-◌, ◌≤◌}
 use mathlib.Core.Path.{◌≡◌, sym, ap, ◌∙◌}
 use mathlib.Core.List.{List}
 use native.Mathlib.Omega.{arith}
@@ -10,7 +10,7 @@ use Rattle.lent.proofs.Lent.{between_more, length_between}
 use Rattle.lent.proofs.Updated.{updated_none, updated_length}
 use Rattle.runs.specs.Run.{levels, run_len}
 use Rattle.runs.proofs.Here.{stands_first, here_low, here_run}
-use Rattle.runs.proofs.Upto.{CutOff, cut_told, Upto, upto_stands, upto_more, upto_next, upto_all}
+use Rattle.runs.proofs.Upto.{upto_told, upto_all}
 use Rattle.values.specs.Ray.{mark_at, held_at, marks_of, values_of}
 use Rattle.values.specs.Reading.{reading_of, mark_of}
 use Rattle.values.specs.Inner.{number_of, numbered_to}
@@ -34,62 +34,52 @@ loop-run-init c = let L = levels c.args.v c.args.octets.now in
       sym (ap (λ (l : List ℕ). updated (held_at c.args.product) l c.args.values.now) bare ∙ updated_none (held_at c.args.product) (drop c.args.a L) c.args.values.now),
     )
 
-pub overflow_sub-b : goal.overflow_sub-b
-overflow_sub-b c = c.loop-run.invariant.0.few
-
 pub run_upto-requires : goal.run_upto-requires
 run_upto-requires c = (base_low c.args.product c.args.v c.requires.low, omega (arith, c.requires.near))
 
 pub reading_of-reading-requires : goal.reading_of-reading-requires
 reading_of-reading-requires c =
-    let run : CutOff c.args.v c.args.octets.now c.loop-run.at (c.args.b - c.loop-run.bins) c.in-Some.run'.level c.in-Some.run'.len c.in-Some.run'.next = cut_told c.args.v _ c.args.octets.now c.loop-run.at _ (sym c.in-Some.is ∙ c.run_upto.ensures) in
-    let r = run in omega (arith, c.requires.low, r.is, here_low c.args.v c.args.octets.now c.loop-run.at c.loop-run.bins (upto_stands _ _ _ _ _ c.loop-run.invariant.0 _ _ _ r) (upto_more _ _ _ _ _ c.loop-run.invariant.0 _ _ _ r))
+    let run = upto_told _ _ _ _ _ c.loop-run.invariant.0 _ (sym c.in-Some.is ∙ c.run_upto.ensures) in
+    omega (arith, c.requires.low, run.cut.is, here_low c.args.v c.args.octets.now c.loop-run.at c.loop-run.bins run.stands run.more)
 
 pub overflow_add-to : goal.overflow_add-to
 overflow_add-to c =
-    let run : CutOff c.args.v c.args.octets.now c.loop-run.at (c.args.b - c.loop-run.bins) c.in-Some.run'.level c.in-Some.run'.len c.in-Some.run'.next = cut_told c.args.v _ c.args.octets.now c.loop-run.at _ (sym c.in-Some.is ∙ c.run_upto.ensures) in
-    let past : (0 < c.in-Some.run'.len) × Upto c.args.v c.args.octets.now c.args.b c.in-Some.run'.next (c.loop-run.bins + c.in-Some.run'.len) = upto_next c.args.v c.args.octets.now c.args.b c.loop-run.at c.loop-run.bins c.loop-run.invariant.0 _ _ _ (run) in
-    record { fits = omega (arith, (past).1.few, c.requires.near) }
+    let run = upto_told _ _ _ _ _ c.loop-run.invariant.0 _ (sym c.in-Some.is ∙ c.run_upto.ensures) in
+    record { fits = omega (arith, run.on.few, c.requires.near) }
 
 pub put_reading-requires : goal.put_reading-requires
 put_reading-requires c =
     let size-marks : length c.loop-run.marks ≡ length c.args.marks.now = ap length c.loop-run.invariant.1 ∙ updated_length _ _ _ in
     let size-values : length c.loop-run.values ≡ length c.args.values.now = ap length c.loop-run.invariant.2 ∙ updated_length _ _ _ in
-    let run : CutOff c.args.v c.args.octets.now c.loop-run.at (c.args.b - c.loop-run.bins) c.in-Some.run'.level c.in-Some.run'.len c.in-Some.run'.next = cut_told c.args.v _ c.args.octets.now c.loop-run.at _ (sym c.in-Some.is ∙ c.run_upto.ensures) in
-    let past : (0 < c.in-Some.run'.len) × Upto c.args.v c.args.octets.now c.args.b c.in-Some.run'.next (c.loop-run.bins + c.in-Some.run'.len) = upto_next c.args.v c.args.octets.now c.args.b c.loop-run.at c.loop-run.bins c.loop-run.invariant.0 _ _ _ (run) in
-    let p = past in (
-      omega (arith, c.excess.ensures, c.excess-in-Some.ensures, p.0),
-      omega (arith, c.excess-in-Some.ensures, p.1.few, size-marks, c.requires.room_marks),
-      omega (arith, c.excess-in-Some.ensures, p.1.few, size-values, c.requires.room_values),
+    let run = upto_told _ _ _ _ _ c.loop-run.invariant.0 _ (sym c.in-Some.is ∙ c.run_upto.ensures) in (
+      omega (arith, c.excess.ensures, c.excess-in-Some.ensures, run.some),
+      omega (arith, c.excess-in-Some.ensures, run.on.few, size-marks, c.requires.room_marks),
+      omega (arith, c.excess-in-Some.ensures, run.on.few, size-values, c.requires.room_values),
     )
 
 pub loop-run-smaller : goal.loop-run-smaller
 loop-run-smaller c =
-    let run : CutOff c.args.v c.args.octets.now c.loop-run.at (c.args.b - c.loop-run.bins) c.in-Some.run'.level c.in-Some.run'.len c.in-Some.run'.next = cut_told c.args.v _ c.args.octets.now c.loop-run.at _ (sym c.in-Some.is ∙ c.run_upto.ensures) in
-    let past : (0 < c.in-Some.run'.len) × Upto c.args.v c.args.octets.now c.args.b c.in-Some.run'.next (c.loop-run.bins + c.in-Some.run'.len) = upto_next c.args.v c.args.octets.now c.args.b c.loop-run.at c.loop-run.bins c.loop-run.invariant.0 _ _ _ (run) in
-    omega (arith, (past).0, (run).wanted)
+    let run = upto_told _ _ _ _ _ c.loop-run.invariant.0 _ (sym c.in-Some.is ∙ c.run_upto.ensures) in
+    omega (arith, run.some, run.cut.wanted)
 
 pub loop-run-preserved : goal.loop-run-preserved
 loop-run-preserved c =
-    let run : CutOff c.args.v c.args.octets.now c.loop-run.at (c.args.b - c.loop-run.bins) c.in-Some.run'.level c.in-Some.run'.len c.in-Some.run'.next = cut_told c.args.v _ c.args.octets.now c.loop-run.at _ (sym c.in-Some.is ∙ c.run_upto.ensures) in
-    let past : (0 < c.in-Some.run'.len) × Upto c.args.v c.args.octets.now c.args.b c.in-Some.run'.next (c.loop-run.bins + c.in-Some.run'.len) = upto_next c.args.v c.args.octets.now c.args.b c.loop-run.at c.loop-run.bins c.loop-run.invariant.0 _ _ _ (run) in
-    let r = run in
-    let p = past in
+    let run = upto_told _ _ _ _ _ c.loop-run.invariant.0 _ (sym c.in-Some.is ∙ c.run_upto.ensures) in
     let len = run_len c.args.v c.args.octets.now c.loop-run.at in
     let x = get_or c.args.octets.now c.loop-run.at 0 in
     let to = c.loop-run.bins + c.in-Some.run'.len in
-    let had = between c.args.a c.loop-run.bins ((levels c.args.v c.args.octets.now)) in
+    let had = between c.args.a c.loop-run.bins (levels c.args.v c.args.octets.now) in
     let n = (to - c.args.a) - (c.loop-run.bins - c.args.a) in
-    let size : length had ≡ c.loop-run.bins - c.args.a = length_between ((levels c.args.v c.args.octets.now)) c.args.a c.loop-run.bins c.loop-run.invariant.0.within in
+    let size : length had ≡ c.loop-run.bins - c.args.a = length_between (levels c.args.v c.args.octets.now) c.args.a c.loop-run.bins c.loop-run.invariant.0.within in
     let lo : c.excess.result ≡ length had = c.excess.ensures ∙ sym size in
     let on : c.loop-run.bins ≤ to = omega arith in
     let whole : length had + n ≡ to - c.args.a = ap (λ (m : ℕ). m + n) size ∙ joined c.args.a c.loop-run.bins to on in
     let hi : c.excess-in-Some.result ≡ length had + n = c.excess-in-Some.ensures ∙ sym whole in
     let many : c.excess-in-Some.result - c.excess.result ≡ n = omega (arith, lo, hi) in
-    let reading = c.reading_of-reading.ensures ∙ ap (reading_of c.args.product) r.is in
-    let grown = between_more ((levels c.args.v c.args.octets.now)) (drop (c.loop-run.bins + len) ((levels c.args.v c.args.octets.now))) c.args.marks.now c.args.a c.loop-run.bins to len x on (here_run c.args.v c.args.octets.now c.loop-run.at c.loop-run.bins (upto_stands _ _ _ _ _ c.loop-run.invariant.0 _ _ _ r) (upto_more _ _ _ _ _ c.loop-run.invariant.0 _ _ _ r)) (omega (arith, r.size)) in
-    let room : length had + n ≤ c.args.b - c.args.a = within c.args.a to c.args.b (length had + n) whole p.1.few in (
-      p.1,
+    let reading = c.reading_of-reading.ensures ∙ ap (reading_of c.args.product) run.cut.is in
+    let grown = between_more (levels c.args.v c.args.octets.now) (drop (c.loop-run.bins + len) (levels c.args.v c.args.octets.now)) c.args.marks.now c.args.a c.loop-run.bins to len x on (here_run c.args.v c.args.octets.now c.loop-run.at c.loop-run.bins run.stands run.more) (omega (arith, run.cut.size)) in
+    let room : length had + n ≤ c.args.b - c.args.a = within c.args.a to c.args.b (length had + n) whole run.on.few in (
+      run.on,
       c.put_reading.ensures.marks_after
           ∙ (λ i. placed (c.loop-run.invariant.1 i) (lo i) (replicate (many i) (mark_of (reading i))))
           ∙ marks_run c.args.product x had c.args.marks.now n (omega (arith, room, c.requires.room_marks))
@@ -100,16 +90,11 @@ loop-run-preserved c =
           ∙ ap (λ (ls : List ℕ). updated (held_at c.args.product) ls c.args.values.now) (sym grown),
     )
 
-pub shape_of-marks : goal.shape_of-marks
-shape_of-marks c =
-    let size-marks : length c.loop-run.marks ≡ length c.args.marks.now = ap length c.loop-run.invariant.1 ∙ updated_length _ _ _ in
-    size-marks
-
-pub shape_of-values : goal.shape_of-values
-shape_of-values c =
-    let size-values : length c.loop-run.values ≡ length c.args.values.now = ap length c.loop-run.invariant.2 ∙ updated_length _ _ _ in
-    size-values
-
 pub returns : goal.returns
 unfolding marks_of values_of
-returns c = let all = upto_all c.args.v c.args.octets.now c.args.b c.loop-run.at c.loop-run.bins c.loop-run.invariant.0 (sym c.in_default.is ∙ c.run_upto.ensures) c.requires.given in record { marks_after = c.loop-run.invariant.1 ∙ ap (λ (n : ℕ). updated (mark_at c.args.product) (between c.args.a n ((levels c.args.v c.args.octets.now))) c.args.marks.now) all; values_after = c.loop-run.invariant.2 ∙ ap (λ (n : ℕ). updated (held_at c.args.product) (between c.args.a n ((levels c.args.v c.args.octets.now))) c.args.values.now) all }
+returns c =
+    let all = upto_all c.args.v c.args.octets.now c.args.b c.loop-run.at c.loop-run.bins c.loop-run.invariant.0 (sym c.in_default.is ∙ c.run_upto.ensures) c.requires.given in
+    record {
+      marks_after = c.loop-run.invariant.1 ∙ ap (λ (n : ℕ). updated (mark_at c.args.product) (between c.args.a n (levels c.args.v c.args.octets.now)) c.args.marks.now) all;
+      values_after = c.loop-run.invariant.2 ∙ ap (λ (n : ℕ). updated (held_at c.args.product) (between c.args.a n (levels c.args.v c.args.octets.now)) c.args.values.now) all;
+    }

@@ -1,15 +1,15 @@
 -- With the pairs passed all right or not, the whole is right exactly when they are and what is left is.
 use mathlib.Core.Bool.{Bool, ◌&&◌, and-true}
-use lib.IntN.{ℤ, pos}
+use lib.IntN.{pos}
 use mir.Syntax.{w16}
 use mir.Facts.{to_z-of_z}
-use mathlib.Core.Path.{refl, ◌∙◌, sym, ap, subst}
-use Prim.Native.Nat.{◌+◌, ◌*◌, ◌<◌}
+use mathlib.Core.Path.{◌∙◌, sym, ap}
+use Prim.Native.Nat.{◌+◌, ◌*◌}
 use native.Mathlib.Omega.{arith}
 use lib.ListN.{get_or}
-use Rattle.values.specs.Table.{sign_magnitude}
 use Rattle.values.specs.Inner.{pair_right}
 use Rattle.values.proofs.Octets.{unlike_length, with_pair, no_pair}
+use borrow.Author.Rules.{rules}
 use Rattle.values.proofs.right_in.Goals as goal
 
 pub returns-then-octets-m : goal.returns-then-octets-m
@@ -18,14 +18,8 @@ returns-then-octets-m c = sym (unlike_length c.args.octets.now c.args.table.now 
 pub returns-then-octets-ne0 : goal.returns-then-octets-ne0
 returns-then-octets-ne0 c = sym (unlike_length c.args.octets.now c.args.table.now (λ e. c.if-octets-ne0.true (omega arith)))
 
-pub loop-i-init : goal.loop-i-init
-loop-i-init c = (omega arith, omega arith, refl)
-
-pub pair_right-right-requires : goal.pair_right-right-requires
-pair_right-right-requires c = subst (λ (z : ℤ). sign_magnitude z < 65536) (sym (to_z-of_z {w = w16} {z = get_or c.args.table.now c.loop-i.i (pos 0)} (record { sfits = c.pair_right-arg-1.given }))) (c.requires c.loop-i.i)
-
 pub loop-i-preserved : goal.loop-i-preserved
-loop-i-preserved c = let pair = c.pair_right-right.ensures ∙ ap (pair_right (get_or c.args.octets.now (2 * c.loop-i.i) 0) (get_or c.args.octets.now (2 * c.loop-i.i + 1) 0)) (to_z-of_z {w = w16} {z = get_or c.args.table.now c.loop-i.i (pos 0)} (record { sfits = c.pair_right-arg-1.given })) in
+loop-i-preserved c = let pair = c.pair_right-right.ensures ∙ ap (pair_right (get_or c.args.octets.now (2 * c.loop-i.i) 0) (get_or c.args.octets.now (2 * c.loop-i.i + 1) 0)) (to_z-of_z {w = w16} {z = get_or c.args.table.now c.loop-i.i (pos 0)} (search rules)) in
     (omega arith, c.loop-i.invariant.1, sym (with_pair c.args.octets.now c.args.table.now c.loop-i.i c.loop-i.right _ (omega arith) c.loop-i.invariant.1 pair) ∙ c.loop-i.invariant.2)
 
 pub returns : goal.returns
