@@ -19,6 +19,8 @@ use stretches::Listing;
 
 // ---- arguments
 
+// (Not by `try_from`: out of range is an answer here, and no error.)
+
 // V as an octet: past 253 it is one that is past 253.
 pub fn narrow_v(v: u64) -> u8
     ensures { result ≡ narrow_v v }
@@ -74,7 +76,7 @@ pub fn check_return(answer: Result<(), CheckRefusal>) -> u64
     }
 }
 
-// Of run read.
+// Of run read. No one function for both: their refusals have other cases.
 pub fn read_return(answer: Result<(), ReadRefusal>) -> u64
     ensures { result ≡ read_return answer }
 {
@@ -130,6 +132,8 @@ fn put_summary(product: u64, time: Time, site: u16, cuts: usize, words: &mut [u6
     words[7] = site as u64;
     words[8] = cuts as u64;
 }
+
+// Open and cut of each format: what they share is above; the rest is one `match`, which a closure for it would only hide.
 
 pub fn put_open(answer: Result<Summary, Refusal>, words: &mut [u64; 9]) -> u64
     requires { InWord (open_return answer) }

@@ -14,7 +14,7 @@ ghost use Rattle.dualpol.specs.Answers.{summary_of, OpenPromise, CutPromise, bin
 use dual_format::DualPolarisation;
 use sections::{Cut, Grid, Refusal, Time};
 
-// What is common to all cuts of a file.
+// What is common to all cuts of a file: of this format the parameter's number, and no product.
 #[derive(Clone, Copy)]
 pub struct DualSummary {
     pub parameter: u8,

@@ -58,7 +58,7 @@ struct AfterStep {
     next: Progress,
 }
 
-// How many octets were written, and where the writing then stands.
+// How many octets were written, and where the writing then stands: a number of octets, and no place.
 #[derive(Clone, Copy)]
 pub struct Written {
     pub len: usize,
