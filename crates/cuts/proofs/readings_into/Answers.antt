@@ -1,23 +1,8 @@
 -- What `values::readings_into` asks and gives, said of a good cut (Places.antt).
-use Prim.Native.Nat.{ℕ, ◌+◌, ◌*◌}
-use mathlib.Core.Path.{◌∙◌, ap}
-use native.Mathlib.Omega.{arith}
+use mathlib.Core.Path.{◌∙◌}
 use Rattle.values.specs.Ray.{marks_of, values_of}
-use Rattle.sections.specs.Parts.{bins_in, rays_in}
-use Rattle.cuts.proofs.Places.{few_bins, ray_inside, readings_ask, ray_gives}
+use Rattle.cuts.proofs.Places.{readings_ask, ray_gives}
 use Rattle.cuts.proofs.readings_into.Goals as goal
-
-pub overflow_mul-from : goal.overflow_mul-from
-overflow_mul-from c = let inside = ray_inside c.args.ray (rays_in c.args.file.now c.args.c) (bins_in c.args.file.now c.args.c) c.requires.ray_bound.0 in
-    let few = few_bins c.args.file.now c.args.c c.requires.good_cut in
-    let same = ap (λ (k : ℕ). c.args.ray * k) c.bins_in-nb.ensures in
-    record { fits = omega arith }
-
-pub overflow_add-from : goal.overflow_add-from
-overflow_add-from c = let inside = ray_inside c.args.ray (rays_in c.args.file.now c.args.c) (bins_in c.args.file.now c.args.c) c.requires.ray_bound.0 in
-    let few = few_bins c.args.file.now c.args.c c.requires.good_cut in
-    let same = ap (λ (k : ℕ). c.args.ray * k + k) c.bins_in-nb.ensures in
-    record { fits = omega arith }
 
 pub readings_into-requires : goal.readings_into-requires
 readings_into-requires c = let whole = readings_ask c.args.file.now c.args.c c.requires.good_cut _ _ c.greatest_in-v.ensures c.data_in.ensures _ c.args.ray c.bins_in-nb.ensures c.requires.ray_bound.0 _ c.product_in-product.ensures _ _ c.requires.ray_bound.1 c.requires.ray_bound.2 in record { bins = whole.0; a_lt_b = whole.1 }

@@ -1,6 +1,6 @@
 -- `put_entries` meets its contract: what the lines still to be put would make of the octets is what all lines make of them.
 use Prim.Native.Nat.{ℕ, ◌+◌, ◌-◌}
-use mathlib.Core.Path.{◌≡◌, refl, sym, ap, ◌∙◌}
+use mathlib.Core.Path.{◌≡◌, sym, ap, ◌∙◌}
 use mathlib.Core.List.{List}
 use native.Mathlib.Omega.{arith}
 use lib.ListN.{length}
@@ -10,19 +10,6 @@ use Rattle.lines.proofs.Lines.{entries_none, more_put}
 use Rattle.lines.specs.Text.{entry_lines}
 use Rattle.lines.specs.Words.{entries_in}
 use Rattle.lines.proofs.put_entries.Goals as goal
-
-pub loop-i-init : goal.loop-i-init
-loop-i-init c =
-    let all : c.args.count ≡ c.args.first + c.args.count - c.args.first = omega arith in (
-      omega arith,
-      omega arith,
-      refl,
-      ap (λ (n : ℕ). placed c.args.out.now c.args.at (entry_lines (entries_in c.args.words.now c.args.first n))) (sym all),
-      ap (λ (n : ℕ). c.args.at + length (entry_lines (entries_in c.args.words.now c.args.first n))) (sym all),
-    )
-
-pub put_entry-to-requires : goal.put_entry-to-requires
-put_entry-to-requires c = (omega (arith, c.requires.0), omega (arith, c.requires.1))
 
 pub loop-i-preserved : goal.loop-i-preserved
 loop-i-preserved c =

@@ -28,9 +28,6 @@ returns-in-ToList c =
     step_list c.args.file.now c.list_part-next.new.words c.args.text.now c.args.p c.args.at c.in-ToList.part c.list_part-next.result c.in-ToList.is
     c.list_part-next.ensures.to_come c.list_part-next.ensures.result_value (omega (arith, c.requires.per_entry_in_bounds.1))
 
-pub returns-in-ToWrite : goal.returns-in-ToWrite
-returns-in-ToWrite c = rw c.in-ToWrite.is c.put_more_lines.ensures
-
 pub returns-in-End : goal.returns-in-End
 returns-in-End c =
     step_end c.args.file.now c.args.words.now c.args.text.now c.put_end-to.new.out c.args.p c.args.at c.put_end-to.result c.in-End.total
