@@ -8,8 +8,8 @@ use native.Mathlib.Numerals.{add-one}
 use native.Mathlib.Omega.{arith}
 use lib.Dec.{eqb, ltb}
 use lib.IntN.{ℤ, pos}
-use lib.ListN.{length, get_or, drop, drop_of_length-le}
-use lib.Seq.{drop-cons}
+use lib.ListN.{length, get_or, take, drop, drop_of_length-le}
+use lib.Seq.{drop-cons, get_or-drop}
 use borrow.Author.Tests.{eq-eqb, ne_eqb, eqb-true, eqb-false, ltb-true}
 use Rattle.octets.specs.Octets.{same}
 use Rattle.octets.proofs.Same.{same_eq, same_refl}
@@ -83,6 +83,33 @@ pub no_pair : (xs : List ℕ) (zs : List ℤ) (i : ℕ) → length zs ≤ i → 
 unfolding same octets_of
 no_pair xs zs i h e =
     ap (λ ys. same ys (octets_of (drop i zs))) (drop_of_length-le xs {i = 2 * i} (omega arith)) ∙ ap (λ ws. same [] (octets_of ws)) (drop_of_length-le zs h)
+
+-- ---- in two parts, of n octets and k values first
+pub in_parts : (k n : ℕ) (xs : List ℕ) (zs : List ℤ) → n ≡ 2 * k → n ≤ length xs → k ≤ length zs
+    → same xs (octets_of zs) ≡ same (take n xs) (octets_of (take k zs)) && same (drop n xs) (octets_of (drop k zs))
+unfolding same octets_of
+in_parts zero zero xs zs e h g = refl
+in_parts zero (suc n) xs zs e h g = absurd (omega arith)
+in_parts (suc k) zero xs zs e h g = absurd (omega arith)
+in_parts (suc k) (suc zero) xs zs e h g = absurd (omega arith)
+in_parts (suc k) (suc (suc n)) [] zs e h g = absurd (omega arith)
+in_parts (suc k) (suc (suc n)) (h ∷ []) zs e i g = absurd (omega arith)
+in_parts (suc k) (suc (suc n)) (h ∷ l ∷ xs) [] e i g = absurd (omega arith)
+in_parts (suc k) (suc (suc n)) (h ∷ l ∷ xs) (z ∷ zs) e i g =
+    pair_rest xs zs h l z
+    ∙ ap (λ (b : Bool). pair_right h l z && b) (in_parts k n xs zs (omega arith) (omega arith) (omega arith))
+    ∙ and_assoc (pair_right h l z) (same (take n xs) (octets_of (take k zs))) (same (drop n xs) (octets_of (drop k zs)))
+    ∙ ap (λ (b : Bool). b && same (drop n xs) (octets_of (drop k zs))) (sym (pair_rest (take n xs) (take k zs) h l z))
+
+pub writable_front : (n : ℕ) (zs : List ℤ) → InTwoOctets zs → InTwoOctets (take n zs)
+unfolding sign_magnitude
+writable_front zero zs w k = omega arith
+writable_front (suc n) [] w k = omega arith
+writable_front (suc n) (z ∷ zs) w zero = w 0
+writable_front (suc n) (z ∷ zs) w (suc k) = writable_front n zs (λ j. w (suc j)) k
+
+pub writable_back : (n : ℕ) (zs : List ℤ) → InTwoOctets zs → InTwoOctets (drop n zs)
+writable_back n zs w k = rw (get_or-drop n zs k (pos 0)) (w (n + k))
 
 -- ---- every published value has a form in 16 bits: computed over each table
 abbrev writable_all : List ℤ → Bool
