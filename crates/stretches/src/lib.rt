@@ -71,6 +71,13 @@ fn list_by(
     ensures value { result ≡ answer_of nr (length out.old) (stretches_from (kind_by_table kinds.now) v octets.now nb nr from) }
     ensures out_after { out.new ≡ out_of out.old (stretches_from (kind_by_table kinds.now) v octets.now nb nr from) }
 {
+    if nb == 0 { // no cut has rays without bins: once it is said here, the loop over rays does not ask it at each
+        return Listing {
+            count: 0,
+            ray: nr,
+            bin: 0,
+        };
+    }
     let cap = out.len() / PER_ENTRY;
     let mut at: usize = 0;
     let mut ray: usize = 0;
